@@ -1,0 +1,5 @@
+pub mod Answers
+pub mod Graphs
+pub mod Signatures
+pub mod Trees
+pub mod Valuations
