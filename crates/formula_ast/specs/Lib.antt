@@ -1,0 +1,5 @@
+pub mod Forms
+pub mod Leaf
+pub mod Satisfaction
+pub mod Stability
+pub mod Terms

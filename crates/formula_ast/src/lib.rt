@@ -1,6 +1,18 @@
 //! Formulas over rational trees and what they mean; the tokens that they are written with.
 #![tactic(auto)]
 
+mod formula;
+mod laws;
+mod names;
+mod pred;
+mod statement;
+mod term;
 mod token;
 
+pub use formula::Formula;
+pub use laws::meanings_are_stable;
+pub use names::Names;
+pub use pred::{Pred, Preds};
+pub use statement::{Statement, Statements};
+pub use term::{Term, Terms};
 pub use token::{Token, TokenKind};
