@@ -3,3 +3,5 @@ pub mod Leaf
 pub mod Satisfaction
 pub mod Stability
 pub mod Terms
+pub mod Tokens
+pub mod Valid

@@ -1,6 +1,7 @@
 //! Formulas over rational trees and what they mean; the tokens that they are written with.
 #![tactic(auto)]
 
+mod file;
 mod formula;
 mod laws;
 mod names;
@@ -9,6 +10,7 @@ mod statement;
 mod term;
 mod token;
 
+pub use file::File;
 pub use formula::Formula;
 pub use laws::meanings_are_stable;
 pub use names::Names;
