@@ -1,5 +1,5 @@
 -- What a text is made of: blanks, comments and tokens.
-use Rattle.std.specs.Prelude.{◌≡◌, ℕ, zero, suc, ◌+◌, ◌-◌, Bool, false, not, ◌&&◌, ◌||◌, ◌==◌, if◌then◌else◌, List, [], ◌∷◌, take, drop, length, Option, Some, None, codes, slice_range}
+use Rattle.std.specs.Prelude.{ℕ, zero, suc, ◌+◌, ◌-◌, Bool, false, not, ◌&&◌, ◌||◌, ◌==◌, if◌then◌else◌, List, [], ◌∷◌, take, drop, length, Option, Some, None, codes, slice_range}
 use Rattle.std.specs.List.{prefix_len, list_all}
 use Rattle.std.specs.Map.{lookup}
 use Rattle.std.specs.Option.{option_map, option_or}
@@ -24,6 +24,7 @@ reserved =
     ∷ (codes "exists", k.Exists) ∷ (codes "forall", k.Forall) ∷ (codes "finite", k.Finite)
     ∷ (codes "win", k.Win) ∷ (codes "true", k.«True») ∷ (codes "false", k.«False») ∷ []
 
+-- the marks, and what each is called
 abbrev pub marks : List (List ℕ × TokenKind)
 marks =
     (codes "(", k.LeftParen) ∷ (codes ")", k.RightParen) ∷ (codes ",", k.Comma) ∷ (codes ".", k.Stop)
@@ -33,7 +34,7 @@ marks =
 
 -- the kind beside this text in a table
 abbrev pub kind_in : List (List ℕ × TokenKind) → List ℕ → Option TokenKind
-kind_in table text = lookup (λ form. bytes_eq form text) table
+kind_in table text = lookup (λ form. bytes_eq text form) table
 
 -- one or more digits
 abbrev pub is_number : List ℕ → Bool
@@ -64,12 +65,14 @@ longest (suc n) text = option_or (option_map (λ kind. (kind, suc n)) (kind_of (
 unfoldable pub front : List ℕ → Option (TokenKind × ℕ)
 front text = longest (length text) text
 
--- the tokens of a text, up to its end or to the first byte that is in none, each with its place
+-- the tokens of a text, each with its place: up to the end of the text, at an offset that is the number of its bytes, or up
+-- to the offset of the first byte behind blanks, comments and tokens that begins no token
 pub data Stream : Type 0 where
   end : ℕ → Stream
   bad : ℕ → Stream
   token : Token → Stream → Stream
 
+-- the token of this kind and length that begins at an offset
 abbrev pub token_of : TokenKind → ℕ → ℕ → Token
 token_of kind from len = record { kind = kind; from = from; to = from + len }
 
@@ -100,5 +103,6 @@ pub record Word : Type 0 where
   pub kind : TokenKind
   pub text : List ℕ
 
+-- a token's word, from the bytes that it stands in
 abbrev pub word_of : List ℕ → Token → Word
 word_of bytes t = record { kind = t.kind; text = slice_range bytes t.from t.to }

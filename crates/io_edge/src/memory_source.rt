@@ -1,9 +1,7 @@
 // A source over memory.
-ghost use Rattle.std.specs.Prelude.{◌≡◌, ◌⊎◌, ◌≤◌, ◌<◌, ◌++◌, [], ◌∷◌, true, false, length, take, min, OnOk, OnErr, IsOk, IsErr, MatchOption, Some, None, IsTrue, IfOk, is_err, slice_index_or, if◌then◌else◌};
-ghost use Rattle.std.specs.Io.{ReadsAtMost};
-ghost use Rattle.std.specs.Io.KnownBytes.{ReadConsumes, IsAtEnd};
-ghost use Rattle.io_edge.specs.Edge.{Rose, IsMissing, OpensAt, bytes_named};
-ghost use Rattle.io_edge.specs.Memory.{open_fails, after_open, read_fails, read_count, after_read};
+ghost use Rattle.std.specs.Prelude.{◌≡◌, ◌≤◌, ◌<◌, ◌++◌, [], ◌∷◌, false, length, take, min, OnOk, OnErr, MatchOption, Some, None};
+ghost use Rattle.io_edge.specs.Edge.{bytes_named};
+ghost use Rattle.io_edge.specs.Memory.{Opens, Reads};
 ghost use Rattle.io_edge.specs.Stored.{contents, bytes_at};
 
 use crate::stored::StoredFile;
@@ -11,7 +9,12 @@ use crate::{Failed, NoMemory, Source};
 use std::alloc::Global;
 use std::marker::Model;
 
-/// A source over files in memory. Calls of `open` and `read` are numbered together from 0.
+/// A source over files in memory, whose calls `open` and `read` take no memory. They are numbered together from 0,
+/// and all from number 18446744073709551615 on have this number.
+///
+/// An `open` fails where its number is one that is to fail, or where no file has the name; only the first is counted.
+/// A `read` fails where a file is open and its number is one that is to fail. Else it gives the least of `most`, the
+/// buffer's length and the number of bytes left.
 #[derive(Drop)]
 pub struct MemorySource {
     alloc: Global,
@@ -62,7 +65,7 @@ impl MemorySource {
         }
     }
 
-    /// One more file. An earlier one with the same name stays the first.
+    /// One more file, after the others. An earlier one with the same name is the one that `open` finds.
     pub fn add(&mut self, name: &str, bytes: &[u8]) -> Result<(), NoMemory>
         ensures ok { OnOk result (self.new ≡ record self.old { files = self.old.files ++ (name.now, bytes.now) ∷ [] }) }
         ensures err { OnErr result (self.new ≡ self.old) }
@@ -81,7 +84,7 @@ impl MemorySource {
         Ok(())
     }
 
-    /// From here on a `read` gives at most n bytes.
+    /// From here on a `read` gives at most n bytes. Without this call there is no bound.
     pub fn most(&mut self, n: usize)
         requires { 1 ≤ n }
         ensures { self.new ≡ record self.old { most = n } }
@@ -122,21 +125,11 @@ impl Source for MemorySource {
 
     ghost faults = { λ s. s.faults };
 
-    ghost opens = { λ old name result new. Unit {0} };
+    ghost opens = { Opens };
 
-    ghost reads = { λ old room result into new. Unit {0} };
+    ghost reads = { Reads };
 
-    fn open(&mut self, name: &str) -> Result<(), Failed>
-        ensures exactly { is_err result ≡ open_fails self.old name.now }
-        ensures after { self.new ≡ after_open self.old name.now }
-        ensures files { Some self.new.files ≡ Some self.old.files }
-        ensures count { self.old.faults ≤ self.new.faults }
-        ensures failed { OnErr result (Rose self.old.faults self.new.faults ⊎ IsMissing (Some self.old.files) name.now) }
-        ensures missing { IsMissing (Some self.old.files) name.now → IsErr result }
-        ensures closed { OnErr result ((self.new.opened ≡ false) × IsAtEnd (Some self.new.left)) }
-        ensures opened { OnOk result (self.new.opened ≡ true) }
-        ensures bytes { OnOk result (OpensAt (Some self.old.files) name.now (Some self.new.left)) }
-    {
+    fn open(&mut self, name: &str) -> Result<(), Failed> {
         let call = self.calls;
         self.calls = call.saturating_add(1);
         self.place = None;
@@ -153,18 +146,7 @@ impl Source for MemorySource {
         }
     }
 
-    fn read(&mut self, into: &mut [u8]) -> Result<usize, Failed>
-        ensures exactly { is_err result ≡ read_fails self.old }
-        ensures gives { IfOk result (λ n. n ≡ read_count self.old (length into.old)) }
-        ensures after { self.new ≡ after_read self.old (length into.old) }
-        ensures files { Some self.new.files ≡ Some self.old.files }
-        ensures opened { self.new.opened ≡ self.old.opened }
-        ensures count { self.old.faults ≤ self.new.faults }
-        ensures failed { OnErr result (Rose self.old.faults self.new.faults) }
-        ensures closed { self.old.opened ≡ false → result ≡ Ok 0 }
-        ensures bound { ReadsAtMost result into.new }
-        ensures bytes { ReadConsumes (Some self.old.left) (Some self.new.left) result into.new }
-    {
+    fn read(&mut self, into: &mut [u8]) -> Result<usize, Failed> {
         let call = self.calls;
         self.calls = call.saturating_add(1);
         let Some(place) = self.place else {

@@ -7,8 +7,9 @@ ghost use Rattle.io_edge.specs.declared.failed.Failed.{Failed};
 
 use crate::Failed;
 
+/// Opens files by their names and reads them. One file is open at a time, and none in a new source.
 pub trait Source {
-    /// The files by name, where the source tells them.
+    /// The files as pairs of name and bytes, where the source tells them. No call changes them.
     ghost files: { Self → Option (List (List ℕ × List ℕ)) };
 
     /// The bytes that are still to be read, where the source tells them.
@@ -17,7 +18,7 @@ pub trait Source {
     /// Whether a file is open.
     ghost opened: { Self → Bool };
 
-    /// How often the source has failed. It stands still at the end of a `u64`.
+    /// How often the source has failed, from 0 in a new one. It never falls, and stands still at the end of a `u64`.
     ghost faults: { Self → ℕ };
 
     /// What one call of `open` may do: the source before it, the name, the answer, the source after it. With
@@ -28,7 +29,8 @@ pub trait Source {
     /// the source after it.
     ghost reads: { Self → ℕ → Result ℕ Failed → List ℕ → Self → Type 0 };
 
-    /// Opens a file, in place of the one that is open.
+    /// Opens the first file with this name, in place of the one that is open. It fails where the count of failures
+    /// rose, or where the source tells its files and none has this name. After a failure no file is open.
     fn open(&mut self, name: &str) -> Result<(), Failed>
         ensures files { files self.new ≡ files self.old }
         ensures count { faults self.old ≤ faults self.new }
@@ -39,7 +41,8 @@ pub trait Source {
         ensures bytes { OnOk result (OpensAt (files self.old) name.now (left self.new)) }
         ensures call { opens self.old name.now result self.new };
 
-    /// Reads on from the open file. `Ok(0)` into a buffer with room means its end.
+    /// Reads on from the open file into the front of the buffer. `Ok(0)` into a buffer with room means its end, or
+    /// that no file is open. A failure takes no bytes: what is left stays.
     fn read(&mut self, into: &mut [u8]) -> Result<usize, Failed>
         ensures files { files self.new ≡ files self.old }
         ensures opened { opened self.new ≡ opened self.old }

@@ -1,15 +1,17 @@
-// The system's files and streams. They tell no content, and count their failures.
-ghost use Rattle.std.specs.Prelude.{◌≡◌, ◌<◌, ◌≤◌, None, false, length, OnErr, IfOk};
-ghost use Rattle.std.specs.Io.{ReadsAtMost, WritesAtMost};
+// The system's files and streams. They count their failures, and tell of bytes what the file or the stream tells:
+// those of the system tell nothing.
+ghost use Rattle.std.specs.Prelude.{◌≡◌, ◌<◌, ◌≤◌, [], Some, false, length, IfOk};
+ghost use Rattle.std.specs.Io.{WritesAtMost};
 ghost use Rattle.std.specs.Io.KnownBytes.{WriteAppends};
-ghost use Rattle.io_edge.specs.Edge.{Rose};
+ghost use Rattle.io_edge.specs.Counts.{after_answer};
 
 use crate::{Failed, Sink, Source};
 use std::fs::OpenOptions;
 use std::io::{Read, Write};
+use std::marker::Model;
 use std::rt::Files;
 
-/// Files by their paths.
+/// Files by their paths. Each call that fails raises the count by one, also an `open` of a path that is not there.
 #[derive(Drop)]
 pub struct FileSource<R: Files> {
     system: R,
@@ -17,10 +19,23 @@ pub struct FileSource<R: Files> {
     faults: u64,
 }
 
+impl<R: Files> Model for FileSource<R> {
+    ghost use Rattle.std.specs.Prelude.{is_some};
+    ghost use Rattle.io_edge.specs.Adapters.{FileState, left_of};
+
+    ghost Value = { FileState };
+
+    ghost view = { λ s. record {
+      opened = is_some s.file;
+      left = left_of R.File.remaining s.file;
+      faults = s.faults;
+    } };
+}
+
 impl<R: Files> FileSource<R> {
+    /// A source over the files of `system`, which is the runtime that `main` is given.
     pub fn new(system: R) -> FileSource<R>
-        ensures count { result.faults ≡ 0 }
-        ensures closed { result.file ≡ None }
+        ensures { result ≡ record { opened = false; left = Some []; faults = 0 } }
     {
         FileSource {
             system,
@@ -31,21 +46,20 @@ impl<R: Files> FileSource<R> {
 }
 
 impl<R: Files> Source for FileSource<R> {
-    ghost use Rattle.std.specs.Prelude.{None, is_some};
-    ghost use Rattle.io_edge.specs.Adapters.{left_of};
+    ghost use Rattle.std.specs.Prelude.{None};
 
     ghost files = { λ s. None };
 
-    // A file of the system tells nothing, so neither does the source while one is open.
-    ghost left = { λ s. left_of R.File.remaining s.file };
+    ghost left = { λ s. s.left };
 
-    ghost opened = { λ s. is_some s.file };
+    ghost opened = { λ s. s.opened };
 
     ghost faults = { λ s. s.faults };
 
-    ghost opens = { λ old name result new. Unit {0} };
+    // The system promises nothing more of a call: all that is said is how the failures are counted.
+    ghost opens = { λ old name result new. new.faults ≡ after_answer old.faults result };
 
-    ghost reads = { λ old room result into new. Unit {0} };
+    ghost reads = { λ old room result into new. new.faults ≡ after_answer old.faults result };
 
     fn open(&mut self, name: &str) -> Result<(), Failed> {
         self.file = None;
@@ -77,8 +91,8 @@ impl<R: Files> Source for FileSource<R> {
 
 // A write to a stream. Where it takes nothing of a piece that is not empty, that is a fault.
 fn write_counted<W: Write>(stream: &mut W, faults: &mut u64, from: &[u8]) -> Result<usize, Failed>
+    ensures exactly { faults.new ≡ after_answer faults.old result }
     ensures count { faults.old ≤ faults.new }
-    ensures failed { OnErr result (Rose faults.old faults.new) }
     ensures bound { WritesAtMost result from.now }
     ensures progress { IfOk result (λ n. 0 < length from.now → 0 < n) }
     ensures bytes { WriteAppends (W.contents stream.old) (W.contents stream.new) result from.now }
@@ -92,54 +106,72 @@ fn write_counted<W: Write>(stream: &mut W, faults: &mut u64, from: &[u8]) -> Res
     }
 }
 
-/// The standard output.
+/// The standard output. Each call that fails raises the count by one.
 #[derive(Drop)]
 pub struct OutSink<W: Write> {
     stream: W,
     faults: u64,
 }
 
+impl<W: Write> Model for OutSink<W> {
+    ghost use Rattle.io_edge.specs.Adapters.{StreamState};
+
+    ghost Value = { StreamState };
+
+    ghost view = { λ s. record { taken = W.contents s.stream; faults = s.faults } };
+}
+
 impl<W: Write> OutSink<W> {
+    /// A sink over `stream`, which is the runtime's standard output.
     pub fn new(stream: W) -> OutSink<W>
-        ensures { result.faults ≡ 0 }
+        ensures { result ≡ record { taken = W.contents stream; faults = 0 } }
     {
         OutSink { stream, faults: 0 }
     }
 }
 
 impl<W: Write> Sink for OutSink<W> {
-    ghost taken = { λ s. W.contents s.stream };
+    ghost taken = { λ s. s.taken };
 
     ghost faults = { λ s. s.faults };
 
-    ghost writes = { λ old piece result new. Unit {0} };
+    ghost writes = { λ old piece result new. new.faults ≡ after_answer old.faults result };
 
     fn write(&mut self, from: &[u8]) -> Result<usize, Failed> {
         write_counted(&mut self.stream, &mut self.faults, from)
     }
 }
 
-/// The standard error.
+/// The standard error. Each call that fails raises the count by one.
 #[derive(Drop)]
 pub struct ErrSink<W: Write> {
     stream: W,
     faults: u64,
 }
 
+impl<W: Write> Model for ErrSink<W> {
+    ghost use Rattle.io_edge.specs.Adapters.{StreamState};
+
+    ghost Value = { StreamState };
+
+    ghost view = { λ s. record { taken = W.contents s.stream; faults = s.faults } };
+}
+
 impl<W: Write> ErrSink<W> {
+    /// A sink over `stream`, which is the runtime's standard error.
     pub fn new(stream: W) -> ErrSink<W>
-        ensures { result.faults ≡ 0 }
+        ensures { result ≡ record { taken = W.contents stream; faults = 0 } }
     {
         ErrSink { stream, faults: 0 }
     }
 }
 
 impl<W: Write> Sink for ErrSink<W> {
-    ghost taken = { λ s. W.contents s.stream };
+    ghost taken = { λ s. s.taken };
 
     ghost faults = { λ s. s.faults };
 
-    ghost writes = { λ old piece result new. Unit {0} };
+    ghost writes = { λ old piece result new. new.faults ≡ after_answer old.faults result };
 
     fn write(&mut self, from: &[u8]) -> Result<usize, Failed> {
         write_counted(&mut self.stream, &mut self.faults, from)

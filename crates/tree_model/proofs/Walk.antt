@@ -1,5 +1,5 @@
-use Rattle.std.proofs.Common.{◌≡◌, ℕ, List, [], ◌∷◌, ◌<◌, ◌≤◌, ◌+◌, length, get_or, drop, refl, sym, subst, ◌∙◌, ap, arith, Some, None}
-use Rattle.std.specs.Prelude.{slice_get, slice_index, option_and_then, Option, All}
+use Rattle.std.proofs.Common.{◌≡◌, ℕ, List, ◌<◌, ◌≤◌, ◌+◌, length, get_or, drop, refl, sym, subst, ◌∙◌, Some, None}
+use Rattle.std.specs.Prelude.{slice_get, slice_index, option_and_then, All}
 use Rattle.std.proofs.lemmas.Option.{slice_get_read, slice_get-get_or, slice_get_past}
 use Rattle.std.proofs.lemmas.List.{at_drop_more, drop_all}
 use Rattle.tree_model.specs.declared.tree.Node.{Node}
@@ -9,7 +9,6 @@ use Rattle.tree_model.specs.Trees.{read, at}
 
 module _ (nodes : List Node) (root place : ℕ) (node : Node) (path : List ℕ) (k : ℕ) (within : place < length nodes)
     (looked : node ≡ get_or nodes place node) (same : read nodes place (drop k path) ≡ read nodes root path) where
-
   -- one step along a path
   step : k < length path → read nodes root path ≡ option_and_then {T = ℕ} {U = Symbol × ℕ} (λ child. read nodes child (drop (k + 1) path)) (slice_get node.children (get_or path k 0))
   step w = sym same ∙ at_drop_more (read nodes place) path k 0 w ∙ rw (slice_get_read nodes _ place node refl within looked) refl

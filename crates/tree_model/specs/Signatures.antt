@@ -1,5 +1,5 @@
 -- Signatures, and trees over them.
-use Rattle.std.specs.Prelude.{◌≡◌, ℕ, List, [], ◌∷◌, length, All, slice_get, Option, Some, option_map}
+use Rattle.std.specs.Prelude.{◌≡◌, ℕ, List, length, All, slice_get, Option, Some, option_map}
 use Rattle.tree_model.specs.declared.kind.Kind.{Kind}
 use Rattle.tree_model.specs.declared.kind.Kind.TheVariants as kind
 use Rattle.tree_model.specs.declared.tree.Node.{Node}

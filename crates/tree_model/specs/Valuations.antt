@@ -1,5 +1,5 @@
 -- Values of variables.
-use Rattle.std.specs.Prelude.{ℕ, Bool, cond, eqb}
+use Rattle.std.specs.Prelude.{ℕ, cond, eqb}
 use Rattle.tree_model.specs.Signatures.{Signature, TreeOver}
 
 -- a tree for each variable

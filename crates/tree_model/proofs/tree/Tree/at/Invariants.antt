@@ -1,4 +1,4 @@
-use Rattle.std.proofs.Common.{◌≡◌, List, ◌<◌, length, take, drop, Some}
+use Rattle.std.proofs.Common.{◌≡◌, ◌<◌, length, drop}
 use Rattle.tree_model.specs.Trees.{read}
 use Rattle.tree_model.proofs.tree.Tree.at.Given as goal
 
