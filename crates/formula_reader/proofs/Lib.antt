@@ -1,0 +1,9 @@
+pub mod Built
+pub mod Declarations
+pub mod Equations
+pub mod Faults
+pub mod Growing
+pub mod Listing
+pub mod ListSteps
+pub mod Shifts
+pub mod Unique

@@ -1,6 +1,0 @@
-pub mod Answers
-pub mod FileRead
-pub mod Laws
-pub mod ReadingSteps
-pub mod Verdicts
-pub mod WritingSteps
