@@ -1,0 +1,97 @@
+-- What was read of a file is the file, or its first bytes and more than a file may have.
+use Rattle.std.proofs.Common.{◌≡◌, ⊎_elim, ℕ, ◌≤◌, ◌<◌, List, [], ◌++◌, length, take, Option, Some, None, Result, Ok, IsSomeAnd, refl, sym, ◌∙◌, ap, subst, arith}
+use Rattle.std.proofs.lemmas.List.{append-nil, take_all, length-take-le}
+use Rattle.std.proofs.lemmas.Bool.{cases_lt}
+use Rattle.std.proofs.Math.Seq.{take-append_seam}
+use Rattle.std.specs.Io.KnownBytes.{Consumes, IsAtEnd}
+use Rattle.io_edge.specs.declared.failed.Failed.{Failed}
+use Rattle.io_edge.specs.Edge.{IsFile, OpensAt, bytes_named}
+use Rattle.solver_cli.specs.Language.{File, Fault, ReadsAs, IsFirstFault}
+use Rattle.solver_cli.specs.Reading.{ReadsAll, Calls}
+use Rattle.solver_cli.specs.Reading.Calls.{all}
+use Rattle.solver_cli.specs.Files.{OfNamed}
+use Rattle.solver_cli.proofs.Laws.{one_fault, reads_within, long_fault, fault_of_long}
+
+-- a file that reads was taken whole
+pub whole_of_reads : (bytes : List ℕ) (file : File) → ReadsAs (take 1048577 bytes) file → take 1048577 bytes ≡ bytes
+whole_of_reads bytes file reads = ⊎_elim
+    (λ long. absurd (omega (arith, length-take-le 1048577 bytes (omega (arith, long)), reads_within (take 1048577 bytes) file reads)))
+    (λ short. take_all 1048577 bytes short)
+    (cases_lt 1048577 (length bytes))
+
+-- the first fault of what was taken is that of the file
+pub fault_of_taken : (bytes : List ℕ) (fault : Fault) → IsFirstFault (take 1048577 bytes) fault → IsFirstFault bytes fault
+fault_of_taken bytes fault is = ⊎_elim
+    (λ long. subst (λ (f : Fault). IsFirstFault bytes f)
+    (one_fault (take 1048577 bytes) long_fault fault (fault_of_long (take 1048577 bytes) (omega (arith, length-take-le 1048577 bytes (omega (arith, long))))) is)
+    (fault_of_long bytes (omega (arith, long))))
+    (λ short. subst (λ (l : List ℕ). IsFirstFault l fault) (take_all 1048577 bytes short) is)
+    (cases_lt 1048577 (length bytes))
+
+-- these bytes begin with those that were taken, which are all of them or so many
+taken_of : (bytes taken more : List ℕ) → bytes ≡ taken ++ more → (length taken < 1048577 → more ≡ []) → length taken ≤ 1048577 → take 1048577 bytes ≡ taken
+taken_of bytes taken more split end within = ⊎_elim
+    (λ short.
+    let same : bytes ≡ taken = split ∙ ap (λ (l : List ℕ). taken ++ l) (end short) ∙ append-nil taken in
+    take_all 1048577 bytes (omega (arith, ap length same, within)) ∙ same)
+    (λ full.
+    let size : length taken ≡ 1048577 = omega (arith, full, within) in
+    ap (λ (l : List ℕ). take 1048577 l) split ∙ ap (λ (n : ℕ). take n (taken ++ more)) (sym size) ∙ take-append_seam taken more)
+    (cases_lt (length taken) 1048577)
+
+-- the bytes of the file of which these were taken
+pub record ReadOf (files : Option (List (List ℕ × List ℕ))) (name taken : List ℕ) : Type 0 where
+  pub file : List ℕ
+  pub is_file : IsFile files name file
+  pub front : take 1048577 file ≡ taken
+
+known : (files : List (List ℕ × List ℕ)) (name file : List ℕ) (end : Option (List ℕ)) (taken : List ℕ) → bytes_named files name ≡ Some file → Consumes (Some file) end taken → (length taken < 1048577 → IsAtEnd end) → length taken ≤ 1048577 → ReadOf (Some files) name taken
+known files name file None taken is consumed end within = absurd consumed
+known files name file (Some more) taken is consumed end within = record {
+  file = file;
+  is_file = is;
+  front = taken_of file taken more consumed end within;
+}
+
+named : (files : List (List ℕ × List ℕ)) (name : List ℕ) (found left end : Option (List ℕ)) (taken : List ℕ) → bytes_named files name ≡ found → IsSomeAnd found (λ file. left ≡ Some file)
+    → Consumes left end taken → (length taken < 1048577 → IsAtEnd end) → length taken ≤ 1048577 → ReadOf (Some files) name taken
+named files name None left end taken is opens consumed at_end within = absurd opens
+named files name (Some file) left end taken is opens consumed at_end within =
+    known files name file end taken is (subst (λ (l : Option (List ℕ)). Consumes l end taken) opens consumed) at_end within
+
+pub read_of : (files : Option (List (List ℕ × List ℕ))) (name : List ℕ) (left end : Option (List ℕ)) (taken : List ℕ) → OpensAt files name left → Consumes left end taken
+    → (length taken < 1048577 → IsAtEnd end) → length taken ≤ 1048577 → ReadOf files name taken
+read_of None name left end taken opens consumed at_end within = record { file = taken; is_file = tt; front = take_all 1048577 taken within }
+read_of (Some files) name left end taken opens consumed at_end within = named files name (bytes_named files name) left end taken refl opens consumed at_end within
+
+module _ {S : Type 0} (opens : S → List ℕ → Result (Unit {0}) Failed → S → Type 0) (reads : S → ℕ → Result ℕ Failed → List ℕ → S → Type 0) (left : S → Option (List ℕ)) (files : S → Option (List (List ℕ × List ℕ))) (name : List ℕ) where
+  pub of_file : (old opened new : S) (taken : List ℕ) → opens old name (Ok tt) opened → OpensAt (files old) name (left opened) → ReadsAll reads left 1048577 opened taken new
+      → OfNamed opens reads left files name old new (λ file. taken ≡ take 1048577 file)
+  of_file old opened new taken call opens_at reads_all =
+      let read : ReadOf (files old) name taken = read_of (files old) name (left opened) (left new) taken opens_at reads_all.known reads_all.at_end reads_all.taken.within in (
+        read.file,
+        record {
+          is_file = read.is_file;
+          calls = record {
+            opened = opened;
+            call = call;
+            rest = subst (λ (l : List ℕ). ReadsAll reads left 1048577 opened l new) (sym read.front) reads_all;
+          };
+        },
+        sym read.front,
+      )
+
+  pub calls_of_file : (old new : S) (taken : List ℕ) → OfNamed opens reads left files name old new (λ file. taken ≡ take 1048577 file) → (bytes : List ℕ) × Calls opens reads left 1048577 name old bytes new
+  calls_of_file old new taken of = (take 1048577 of.0, all of.1.calls)
+
+  -- the first fault of what was taken is that of the file
+  pub fault_of_file : (old new : S) (taken : List ℕ) (fault : Fault) → OfNamed opens reads left files name old new (λ file. taken ≡ take 1048577 file) → IsFirstFault taken fault
+      → OfNamed opens reads left files name old new (λ bytes. IsFirstFault bytes fault)
+  fault_of_file old new taken fault of is = (of.0, of.1, fault_of_taken of.0 fault (subst (λ (l : List ℕ). IsFirstFault l fault) of.2 is))
+
+  -- where what was taken reads as a file, it is the whole file
+  pub reads_of_file : (old new : S) (taken : List ℕ) (P : List ℕ → Type 0) (file : File) → OfNamed opens reads left files name old new (λ file. taken ≡ take 1048577 file) → ReadsAs taken file → P taken
+      → OfNamed opens reads left files name old new P
+  reads_of_file old new taken P file of reads_as holds =
+      let whole : take 1048577 of.0 ≡ of.0 = whole_of_reads of.0 file (subst (λ (l : List ℕ). ReadsAs l file) of.2 reads_as) in
+      (of.0, of.1, subst P (of.2 ∙ whole) holds)

@@ -1,0 +1,22 @@
+use Rattle.std.proofs.Common.{◌≡◌, ◌+◌, length, arith}
+use Rattle.solver_cli.specs.Answered.{Answered}
+use Rattle.solver_cli.proofs.Answers.{begun, stepped, ended, was_cut}
+use Rattle.solver_cli.proofs.answering.answer_bytes.Goals as goal
+
+pub statements-init : goal.statements-init
+statements-init g c = begun g.O.Sink.writes g.O.Sink.taken g.O.Sink.faults c.args.bytes.now c.in-Ok.file c.args.out.now c.in-Ok.ensures.file
+
+pub returns-in-Err-clause-cut : goal.returns-in-Err-clause-cut
+returns-in-Err-clause-cut g c is =
+    let right : Answered c.in-Ok.file (c.statements.place + 1) c.as_bytes.result.now = rw c.as_bytes.ensures.value c.in-Ok-answer.ensures in
+    was_cut g.O.Sink.writes g.O.Sink.taken g.O.Sink.faults c.args.bytes.now c.in-Ok.file c.statements.place c.args.out.now c.statements.out c.write_whole.new.out c.as_bytes.result.now c.statements.invariant (omega arith) right c.in-Err.ensures.cut
+
+pub statements-preserved : goal.statements-preserved
+statements-preserved g c =
+    let right : Answered c.in-Ok.file (c.statements.place + 1) c.as_bytes.result.now = rw c.as_bytes.ensures.value c.in-Ok-answer.ensures in
+    stepped g.O.Sink.writes g.O.Sink.taken g.O.Sink.faults c.args.bytes.now c.in-Ok.file c.statements.place c.args.out.now c.statements.out c.write_whole.new.out c.as_bytes.result.now c.statements.invariant (omega arith) right c.in-Ok-write_whole.ensures.whole c.write_whole.ensures.count
+
+pub returns-clause-done : goal.returns-clause-done
+returns-clause-done g c is =
+    let last : c.statements.place ≡ length c.in-Ok.file.solves = omega arith in
+    ended g.O.Sink.writes g.O.Sink.taken g.O.Sink.faults c.args.bytes.now c.in-Ok.file c.statements.place c.args.out.now c.statements.out c.statements.invariant last

@@ -1,0 +1,206 @@
+// Runs over memory.
+use crate::{Status, report, run};
+use io_edge::{Failed, MemorySink, MemorySource, Source};
+use std::alloc::Global;
+use std::process::Abort;
+use std::test::Fail;
+
+const FIRST: &[u8] = b"symbol f/1. solve exists X: X = f(X).";
+
+const ANSWER: &[u8] = b"1 true\n";
+
+// A source with one file.
+fn source_of(alloc: Global, bytes: &[u8]) -> Result<MemorySource, Fail> {
+    let mut source = MemorySource::new(alloc);
+    source.add("file", bytes)?;
+    Ok(source)
+}
+
+// Runs with ample room on `err`, and compares.
+fn expect_run(
+    rt: &impl Abort,
+    alloc: Global,
+    source: &mut MemorySource,
+    out: &mut MemorySink,
+    status: Status,
+    written: &[u8],
+    line: &[u8],
+) -> Result<(), Fail> {
+    let mut err = MemorySink::new(alloc, 100)?;
+    let words = ["file"];
+    let given = run(alloc, &words, source, out, &mut err);
+    assert_eq!(rt; given, status);
+    assert_eq!(rt; out.bytes(), written);
+    assert_eq!(rt; err.bytes(), line);
+    Ok(())
+}
+
+// Runs with ample room on `out`.
+fn expect_ample(
+    rt: &impl Abort,
+    alloc: Global,
+    source: &mut MemorySource,
+    status: Status,
+    written: &[u8],
+    line: &[u8],
+) -> Result<(), Fail> {
+    let mut out = MemorySink::new(alloc, 100)?;
+    expect_run(rt, alloc, source, &mut out, status, written, line)
+}
+
+#[test]
+fn an_empty_file_has_no_answers(rt: HostRuntime) -> Result<(), Fail> {
+    let alloc = rt.alloc();
+    let mut source = source_of(alloc, b"")?;
+    expect_ample(&rt, alloc, &mut source, Status::Done, b"", b"")
+}
+
+#[test]
+fn a_statement_is_answered(rt: HostRuntime) -> Result<(), Fail> {
+    let alloc = rt.alloc();
+    let mut source = source_of(alloc, FIRST)?;
+    expect_ample(&rt, alloc, &mut source, Status::Done, ANSWER, b"")
+}
+
+#[test]
+fn reads_and_writes_in_pieces(rt: HostRuntime) -> Result<(), Fail> {
+    let alloc = rt.alloc();
+    let mut source = source_of(alloc, FIRST)?;
+    source.most(1);
+    let mut out = MemorySink::new(alloc, 100)?;
+    out.most(3);
+    expect_run(&rt, alloc, &mut source, &mut out, Status::Done, ANSWER, b"")
+}
+
+#[test]
+fn a_fault_is_named(rt: HostRuntime) -> Result<(), Fail> {
+    let alloc = rt.alloc();
+    let mut source = source_of(alloc, b"#")?;
+    expect_ample(
+        &rt,
+        alloc,
+        &mut source,
+        Status::Refused,
+        b"",
+        b"fault 0 notbuilt\n",
+    )
+}
+
+// Call 0 opens, 1 reads, 2 finds the end.
+#[test]
+fn each_call_of_the_source_fails(rt: HostRuntime) -> Result<(), Fail> {
+    let alloc = rt.alloc();
+    for call in 0..3 {
+        let mut source = source_of(alloc, FIRST)?;
+        source.fail_at(call)?;
+        expect_ample(
+            &rt,
+            alloc,
+            &mut source,
+            Status::ReadFault,
+            b"",
+            b"fault read\n",
+        )?;
+    }
+    Ok(())
+}
+
+#[test]
+fn a_name_that_is_not_held(rt: HostRuntime) -> Result<(), Fail> {
+    let alloc = rt.alloc();
+    let mut source = MemorySource::new(alloc);
+    source.add("other", FIRST)?;
+    expect_ample(
+        &rt,
+        alloc,
+        &mut source,
+        Status::ReadFault,
+        b"",
+        b"fault read\n",
+    )
+}
+
+#[test]
+fn the_third_write_fails(rt: HostRuntime) -> Result<(), Fail> {
+    let alloc = rt.alloc();
+    let mut source = source_of(alloc, FIRST)?;
+    let mut out = MemorySink::new(alloc, 100)?;
+    out.most(2);
+    out.fail_at(2)?;
+    expect_run(
+        &rt,
+        alloc,
+        &mut source,
+        &mut out,
+        Status::WriteFault,
+        b"1 tr",
+        b"fault write\n",
+    )
+}
+
+#[test]
+fn little_room(rt: HostRuntime) -> Result<(), Fail> {
+    let alloc = rt.alloc();
+    let mut source = source_of(alloc, FIRST)?;
+    let mut out = MemorySink::new(alloc, 6)?;
+    expect_run(
+        &rt,
+        alloc,
+        &mut source,
+        &mut out,
+        Status::WriteFault,
+        b"1 true",
+        b"fault write\n",
+    )
+}
+
+#[test]
+fn a_line_that_is_not_written_leaves_the_status(rt: HostRuntime) -> Result<(), Fail> {
+    let alloc = rt.alloc();
+    let mut source = source_of(alloc, b"#")?;
+    let mut out = MemorySink::new(alloc, 100)?;
+    let mut err = MemorySink::new(alloc, 100)?;
+    err.fail_at(0)?;
+    let words = ["file"];
+    assert_eq!(rt;
+        run(alloc, &words, &mut source, &mut out, &mut err),
+        Status::Refused
+    );
+    assert_eq!(rt; err.bytes(), b"".as_slice());
+    Ok(())
+}
+
+// The source's call 0 is to fail. So it has met no call where the next one fails.
+fn expect_usage(rt: &impl Abort, alloc: Global, words: &[&str]) -> Result<(), Fail> {
+    let mut source = source_of(alloc, FIRST)?;
+    source.fail_at(0)?;
+    let mut out = MemorySink::new(alloc, 100)?;
+    let mut err = MemorySink::new(alloc, 100)?;
+    assert_eq!(rt;
+        run(alloc, words, &mut source, &mut out, &mut err),
+        Status::Usage
+    );
+    assert_eq!(rt; out.bytes(), b"".as_slice());
+    assert_eq!(rt; err.bytes(), b"fault usage\n".as_slice());
+    assert_eq!(rt; source.open("file"), Err(Failed));
+    Ok(())
+}
+
+#[test]
+fn no_word(rt: HostRuntime) -> Result<(), Fail> {
+    expect_usage(&rt, rt.alloc(), &[])
+}
+
+#[test]
+fn two_words(rt: HostRuntime) -> Result<(), Fail> {
+    expect_usage(&rt, rt.alloc(), &["file", "file"])
+}
+
+#[test]
+fn a_status_has_its_line_and_its_number(rt: HostRuntime) -> Result<(), Fail> {
+    let mut err = MemorySink::new(rt.alloc(), 100)?;
+    report(&mut err, Status::Memory);
+    assert_eq!(rt; err.bytes(), b"fault memory\n".as_slice());
+    assert_eq!(rt; Status::Memory.exit(), 5);
+    Ok(())
+}

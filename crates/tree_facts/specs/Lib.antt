@@ -1,0 +1,4 @@
+pub mod Equations
+pub mod Laws
+pub mod SideBySide
+pub mod Tables
