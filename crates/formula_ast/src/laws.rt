@@ -7,5 +7,4 @@ pub fn meanings_are_stable()
     ensures winning { WinningIsStable }
     ensures predicates { PredicatesAreStable }
     ensures reading { ReadingIsStable }
-{
-}
+{}
