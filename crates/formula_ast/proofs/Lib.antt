@@ -1,3 +1,4 @@
 pub mod Lists
 pub mod Stable
 pub mod Ties
+pub mod WellFormed

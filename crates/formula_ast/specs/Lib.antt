@@ -5,3 +5,5 @@ pub mod Stability
 pub mod Terms
 pub mod Tokens
 pub mod Valid
+pub mod WellFormed
+pub mod WellFormedLaws

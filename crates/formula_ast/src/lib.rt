@@ -12,9 +12,12 @@ mod token;
 
 pub use file::File;
 pub use formula::Formula;
-pub use laws::meanings_are_stable;
+pub use laws::{meanings_are_stable, well_formed_is_stable};
 pub use names::Names;
 pub use pred::{Pred, Preds};
 pub use statement::{Statement, Statements};
 pub use term::{Term, Terms};
 pub use token::{Token, TokenKind};
+
+#[cfg(test)]
+mod tests;

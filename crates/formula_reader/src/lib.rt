@@ -7,6 +7,8 @@ mod fault;
 mod file_reader;
 mod laws;
 mod reader;
+#[cfg(test)]
+mod tests;
 mod written;
 
 pub use fault::{Fault, FaultKind, ReadError};

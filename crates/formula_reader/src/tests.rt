@@ -1,0 +1,259 @@
+use super::*;
+use formula_ast::{File, Formula, Term};
+use std::alloc::{AllocError, Global};
+use std::fmt::Write;
+use std::process::Abort;
+use std::test::*;
+use tree_model::Symbol;
+
+const NAME_OF_64: &str = "a123456789b123456789c123456789d123456789e123456789f123456789_123";
+
+const VARIABLE_OF_64: &str = "A123456789B123456789C123456789D123456789E123456789F123456789_123";
+
+// A term with its symbol's place and its variables' numbers.
+fn write_term(shown: &mut String, term: &Term) -> Result<(), AllocError> {
+    match term {
+        Term::Var(number) => write!(shown, " {number}"),
+        Term::App(Symbol::Named(place), arguments) => {
+            write!(shown, " #{place}")?;
+            for i in 0..arguments.len() {
+                match arguments.get(i) {
+                    Term::Var(number) => write!(shown, " {number}")?,
+                    Term::App(_, _) => write!(shown, " ?")?,
+                }
+            }
+            Ok(())
+        }
+        Term::App(Symbol::Further(_), _) => write!(shown, " ?"),
+    }
+}
+
+// An equation behind at most 1000 quantifiers.
+fn write_formula(shown: &mut String, formula: &Formula) -> Result<(), AllocError> {
+    let mut formula = formula;
+    for _ in 0..1001 {
+        match formula {
+            Formula::Exists(number, body) => {
+                write!(shown, " exists {number}")?;
+                formula = body.get();
+            }
+            Formula::Eq(left, right) => {
+                write!(shown, " :")?;
+                write_term(shown, left)?;
+                write!(shown, " =")?;
+                return write_term(shown, right);
+            }
+            _ => return write!(shown, " ?"),
+        }
+    }
+    Ok(())
+}
+
+// The names that a file declares, and each statement with its list of names.
+fn shown(alloc: Global, file: &File) -> Result<String, AllocError> {
+    let mut shown = String::new(alloc);
+    for place in 0..file.signature.len() {
+        let name = file.signature.name(place);
+        let (kind, arity) = file.signature.entry(place);
+        write!(shown, "{kind:?} {name}/{arity}. ")?;
+    }
+    for i in 0..file.solves.len() {
+        let statement = file.solves.get(i);
+        write!(shown, "[")?;
+        for number in 0..statement.names.len() {
+            let name = statement.names.get(number);
+            write!(shown, "{name} ")?;
+        }
+        write!(shown, "]")?;
+        write_formula(&mut shown, &statement.body)?;
+    }
+    Ok(shown)
+}
+
+// Where a text is refused as not built, or none where it is read.
+fn refused_at(rt: &impl Abort, alloc: Global, bytes: &[u8]) -> Option<usize> {
+    match read_file(alloc, bytes) {
+        Ok(_) => None,
+        Err(ReadError::Refused(fault)) => {
+            assert_eq!(rt; fault.kind, FaultKind::NotBuilt);
+            Some(fault.offset)
+        }
+        Err(ReadError::NoMemory) => panic!(rt; "no memory"),
+    }
+}
+
+#[test]
+fn files_of_the_form_are_read(rt: HostRuntime) -> Result<(), Fail> {
+    for (text, file) in [
+        ("", ""),
+        (" \t\r\n% solve\n% é", ""),
+        ("symbol f/1.", "Symbol f/1. "),
+        (
+            "symbol f/1. solve exists X: X = f(X).",
+            "Symbol f/1. [X ] exists 0 : 0 = #0 0",
+        ),
+        (
+            "symbol a/0. solve exists X: X = a.",
+            "Symbol a/0. [X ] exists 0 : 0 = #0",
+        ),
+        (
+            "symbol f/1, g/2.\nsymbol a/0, h/08. solve exists X Y: Y = g(X, Y).",
+            "Symbol f/1. Symbol g/2. Symbol a/0. Symbol h/8. [X Y ] exists 0 exists 1 : 1 = #1 0 1",
+        ),
+        (
+            "symbol f/2. solve exists X X Y: X = f(Y, X).",
+            "Symbol f/2. [X Y ] exists 0 exists 0 exists 1 : 0 = #0 1 0",
+        ),
+        (
+            "symbol f/1. solve exists Y X: X = f(Y).",
+            "Symbol f/1. [Y X ] exists 0 exists 1 : 1 = #0 0",
+        ),
+        (
+            "%f\nsymbol%g\nf/1.solve exists X_1:X_1=f(X_1).% the end",
+            "Symbol f/1. [X_1 ] exists 0 : 0 = #0 0",
+        ),
+        (
+            "symbol f/000000000000000000000000000000000000001.",
+            "Symbol f/1. ",
+        ),
+    ] {
+        let read = read_file(rt.alloc(), text.as_bytes())?;
+        assert_eq!(rt; read.preds.len(), 0);
+        let read = shown(rt.alloc(), &read)?;
+        assert_eq!(rt; read.as_str(), file, "{text}");
+    }
+    Ok(())
+}
+
+#[test]
+fn other_files_are_refused_at_their_first_statement_outside_the_form(rt: HostRuntime) {
+    for (text, offset) in [
+        ("solve .", 0),
+        ("pred p := true.", 0),
+        ("symbol.", 0),
+        ("symbol f.", 0),
+        ("symbol f/1", 0),
+        ("symbol f/1 solve", 0),
+        ("symbol f/1,.", 0),
+        ("symbol F/1.", 0),
+        ("symbol f/9.", 0),
+        ("symbol f/1, g/9.", 0),
+        ("symbol f/1, f/1.", 0),
+        ("symbol f/1. symbol f/2.", 12),
+        ("symbol f/1. symbol g/2, f/1.", 12),
+        (
+            "symbol f/1. symbol g/99999999999999999999999999999999999999999.",
+            12,
+        ),
+        ("symbol f/1. % c\n  symbol g/1 % .", 18),
+        ("solve exists X: X = a.", 0),
+        ("symbol f/1. solve exists X: X = g(X).", 12),
+        ("symbol f/1. solve exists X: X = f.", 12),
+        ("symbol f/1. solve exists X: X = f().", 12),
+        ("symbol f/1. solve exists X: X = f(X, X).", 12),
+        ("symbol f/1. solve exists X: X = f(X X).", 12),
+        ("symbol f/1. solve exists X: X = f(f(X)).", 12),
+        ("symbol f/1. solve exists X: X = X.", 12),
+        ("symbol f/1. solve exists X: X = $1.", 12),
+        ("symbol f/1. solve exists X: X != f(X).", 12),
+        ("symbol f/1. solve exists X: f(X) = X.", 12),
+        ("symbol f/1. solve exists X: (X = f(X)).", 12),
+        ("symbol f/1. solve exists X: ~X = f(X).", 12),
+        ("symbol f/1. solve exists X: Y = f(X).", 12),
+        ("symbol f/1. solve exists X: X = f(Y).", 12),
+        ("symbol f/1. solve exists X, Y: X = f(Y).", 12),
+        ("symbol f/1. solve exists : X = f(X).", 12),
+        ("symbol f/1. solve forall X: X = f(X).", 12),
+        ("symbol f/1. solve X = f(X).", 12),
+        ("symbol f/1. solve exists X: X = f(X)", 12),
+        (
+            "symbol a/0. solve exists X: X = a.\nsolve exists X: X = a.",
+            35,
+        ),
+        ("symbol a/0. solve exists X: X = a.\nsymbol f/1.", 35),
+        ("symbol a/0. solve exists X: X = a.\n.", 35),
+        ("#", 0),
+        (" % c\n #", 6),
+        ("# symbol f/1.", 0),
+        ("symbol # f/1.", 0),
+        ("symbol f/1#.", 0),
+        ("symbol f/1. #", 12),
+        ("symbol f/1. % c\n# symbol g/1.", 16),
+        ("symbol f/1. é", 12),
+        ("symbol a/0. solve # exists X: X = a.", 12),
+        ("symbol a/0. solve exists X: X = a. #", 35),
+    ] {
+        assert_eq!(rt;
+            refused_at(&rt, rt.alloc(), text.as_bytes()),
+            Some(offset),
+            "{text}"
+        );
+    }
+}
+
+#[test]
+fn names_and_variables_have_at_most_64_bytes(rt: HostRuntime) -> Result<(), Fail> {
+    for (more, offset) in [("", None), ("4", Some(0))] {
+        let text = format!(in rt.alloc(); "symbol {NAME_OF_64}{more}/0.")?;
+        assert_eq!(rt; refused_at(&rt, rt.alloc(), text.as_bytes()), offset);
+    }
+    for (more, offset) in [("", None), ("4", Some(12))] {
+        let text = format!(in rt.alloc();
+            "symbol a/0. solve exists X {VARIABLE_OF_64}{more}: X = a."
+        )?;
+        assert_eq!(rt; refused_at(&rt, rt.alloc(), text.as_bytes()), offset);
+    }
+    Ok(())
+}
+
+#[test]
+fn there_are_at_most_4096_symbols(rt: HostRuntime) -> Result<(), Fail> {
+    let mut text = String::from_str(rt.alloc(), "symbol s/0")?;
+    for i in 1..4096 {
+        write!(text, ", s{i}/0")?;
+    }
+    let together = format!(in rt.alloc(); "{text}, t/0.")?;
+    text.push_str(". ")?;
+    let apart = format!(in rt.alloc(); "{text}symbol t/0.")?;
+    assert_eq!(rt; refused_at(&rt, rt.alloc(), text.as_bytes()), None);
+    assert_eq!(rt; refused_at(&rt, rt.alloc(), together.as_bytes()), Some(0));
+    assert_eq!(rt;
+        refused_at(&rt, rt.alloc(), apart.as_bytes()),
+        Some(text.len())
+    );
+    Ok(())
+}
+
+#[test]
+fn a_quantifier_has_at_most_1000_variables(rt: HostRuntime) -> Result<(), Fail> {
+    let mut text = String::from_str(rt.alloc(), "symbol a/0. solve exists")?;
+    for i in 0..1000 {
+        write!(text, " X{i}")?;
+    }
+    let most = format!(in rt.alloc(); "{text}: X999 = a.")?;
+    let more = format!(in rt.alloc(); "{text} X0: X999 = a.")?;
+    assert_eq!(rt; refused_at(&rt, rt.alloc(), most.as_bytes()), None);
+    assert_eq!(rt; refused_at(&rt, rt.alloc(), more.as_bytes()), Some(12));
+    Ok(())
+}
+
+#[test]
+fn a_file_has_at_most_1048576_bytes(rt: HostRuntime) -> Result<(), Fail> {
+    let mut bytes = vec![in rt.alloc(); b' '; 1_048_576]?;
+    assert_eq!(rt; refused_at(&rt, rt.alloc(), &bytes), None);
+    bytes.push(b' ')?;
+    assert_eq!(rt; refused_at(&rt, rt.alloc(), &bytes), Some(1_048_576));
+    Ok(())
+}
+
+#[test]
+fn errors_are_printed(rt: HostRuntime) -> Result<(), Fail> {
+    let error = ReadError::Refused(Fault {
+        offset: 12,
+        kind: FaultKind::NotBuilt,
+    });
+    let printed = format!(in rt.alloc(); "{error}, {}", ReadError::NoMemory)?;
+    assert_eq!(rt; printed.as_str(), "byte 12: NotBuilt, out of memory");
+    a_text_is_a_file_or_has_one_fault();
+    Ok(())
+}
