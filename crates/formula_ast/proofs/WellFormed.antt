@@ -1,5 +1,5 @@
 -- To be well formed is stable; calls of the first predicates; the empty file.
-use Rattle.std.proofs.Common.{◌≡◌, ℕ, zero, suc, ◌+◌, ◌<◌, ◌≤◌, ◌⊎◌, inl, inr, Bool, true, false, List, [], ◌∷◌, take, length, Option, Some, None, refl, arith}
+use Rattle.std.proofs.Common.{◌≡◌, ℕ, zero, suc, ◌<◌, ◌≤◌, ◌⊎◌, inl, inr, Bool, true, false, List, [], ◌∷◌, take, length, Option, Some, None, refl, arith}
 use Rattle.std.specs.Prelude.{All, IfSome}
 use Rattle.std.specs.Coded.{coded_list, coded_option, coded×, coded_ℕ}
 use Rattle.classical.specs.Classical.{IsStable}
@@ -21,7 +21,7 @@ use Rattle.formula_ast.specs.declared.token.TokenKind.TheVariants as word
 use Rattle.formula_ast.specs.Forms.{Form, form_of, always, never, equal, differ, finite, call, win, no, and, or, imp, iff, exists, forall}
 use Rattle.formula_ast.specs.Terms.{list_of, subterm}
 use Rattle.formula_ast.specs.Tokens.{kind_of}
-use Rattle.formula_ast.specs.WellFormed.{AreWords, AreDistinct, LayerOver, TermOver, FormOver, IsNamedOver, IsPredOver, IsWellFormed}
+use Rattle.formula_ast.specs.WellFormed.{AreDistinct, LayerOver, TermOver, FormOver, IsNamedOver, IsPredOver, IsWellFormed}
 
 below_or_not : (m n : ℕ) → (m < n) ⊎ (¬ (m < n))
 below_or_not m n = grind arith

@@ -1,10 +1,10 @@
 -- The tree of one node.
-use Rattle.std.specs.Prelude.{ℕ, ◌<◌, List, [], ◌∷◌, length, All, slice_index_or}
+use Rattle.std.specs.Prelude.{List, [], ◌∷◌, All}
 use Rattle.std.proofs.Common.{zero, suc, arith}
 use Rattle.tree_model.specs.declared.tree.Node.{Node}
 use Rattle.tree_model.specs.declared.tree.Symbol.TheVariants.{Further}
-use Rattle.tree_model.specs.Graphs.{Graph, ChildrenBelow, IsInRange}
-use Rattle.tree_model.specs.Signatures.{Signature, TreeOver, Fits, IsRoot}
+use Rattle.tree_model.specs.Graphs.{ChildrenBelow, IsInRange}
+use Rattle.tree_model.specs.Signatures.{Signature, TreeOver, Fits}
 
 -- the constant of the further symbol with index 0
 abbrev pub leaf_nodes : List Node

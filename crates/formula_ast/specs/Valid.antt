@@ -1,5 +1,4 @@
 -- Statements of a file that hold always, and never.
-use Rattle.std.specs.Prelude.{ℕ}
 use Rattle.tree_model.specs.Valuations.{Valuation}
 use Rattle.formula_ast.specs.declared.file.File.{File}
 use Rattle.formula_ast.specs.declared.formula.Formula.{Formula}

@@ -1,11 +1,11 @@
 -- Equations and statements are read by their tokens and parts.
-use Rattle.std.proofs.Common.{◌≡◌, ℕ, List, [], ◌∷◌, refl, sym, ◌∙◌, subst}
-use Rattle.std.specs.Prelude.{Result, Ok, Err}
+use Rattle.std.proofs.Common.{◌≡◌, ℕ, List, [], ◌∷◌, refl, ◌∙◌, subst}
+use Rattle.std.specs.Prelude.{Result, Err}
 use Rattle.formula_reader.specs.declared.written.Stop.{Stop}
 use Rattle.formula_reader.specs.declared.written.Stop.TheVariants.{NotBuilt}
 use Rattle.formula_ast.specs.declared.token.TokenKind.TheVariants as k
 use Rattle.formula_ast.specs.Tokens.{Stream}
-use Rattle.formula_reader.specs.Grammar.{Declaration, Equation, Written, symbols, solve, Part, mark, word, statement, declarations, equation, variables, ending, arguments, Derives, Reads, NoneReads}
+use Rattle.formula_reader.specs.Grammar.{Declaration, Equation, symbols, solve, Part, mark, statement, declarations, equation, variables, ending, arguments, Derives, Reads, NoneReads}
 use Rattle.formula_reader.specs.Grammar.Derives.{is_symbols, is_solve, is_equation, no_arguments, some_arguments}
 use Rattle.formula_reader.specs.Input.{Input, left_of, StartsWith, Takes, TakesSome}
 use Rattle.formula_reader.proofs.Shifts.{shift_of, word_on, mark_on, word_back, mark_back, mark_starts, word_starts}

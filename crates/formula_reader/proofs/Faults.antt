@@ -1,13 +1,12 @@
 -- A text is a file, or has one first fault.
-use Rattle.std.proofs.Common.{◌≡◌, ℕ, ◌≤◌, ◌<◌, List, [], ◌∷◌, ◌++◌, length, refl, sym, ◌∙◌, ap, subst, arith, length-append}
-use Rattle.std.proofs.lemmas.List.{append-nil, nil_from_length}
-use Rattle.formula_ast.specs.declared.token.Token.{Token}
+use Rattle.std.proofs.Common.{◌≡◌, ℕ, ◌≤◌, List, [], ◌++◌, length, refl, sym, ap, subst, arith, length-append}
+use Rattle.std.proofs.lemmas.List.{nil_from_length}
 use Rattle.formula_ast.specs.declared.file.File.{File}
-use Rattle.formula_ast.specs.Tokens.{Stream, end, bad, token, tokens_at}
+use Rattle.formula_ast.specs.Tokens.{Stream, end}
 use Rattle.formula_reader.specs.declared.fault.Fault.{Fault}
 use Rattle.formula_reader.specs.declared.fault.FaultKind.TheVariants.{NotBuilt}
 use Rattle.formula_reader.specs.Grammar.{Written, Begins}
-use Rattle.formula_reader.specs.Reading.{IsFront, ReadsAs, GoesOnAt, at_token, at_byte, StopsAt, IsFirstFault, too_long, not_built}
+use Rattle.formula_reader.specs.Reading.{ReadsAs, GoesOnAt, at_token, at_byte, StopsAt, IsFirstFault, too_long, not_built}
 use Rattle.formula_reader.proofs.Unique.{ended, further, at_end}
 
 nothing_at_end : {offset n : ℕ} → GoesOnAt offset (end n) → ⊥

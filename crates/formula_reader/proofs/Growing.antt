@@ -1,58 +1,17 @@
--- How a file grows by statements, and how far it can.
-use Rattle.std.proofs.Common.{◌≡◌, ◌⊎◌, inl, inr, ℕ, zero, suc, Option, Some, None, ◌+◌, ◌≤◌, ◌<◌, List, [], ◌∷◌, ◌++◌, map, length, refl, sym, ◌∙◌, ap, subst, arith, append_assoc, length-append}
-use Rattle.std.specs.Prelude.{slice_get}
-use Rattle.std.proofs.lemmas.List.{append-nil, map-append, nil_from_length}
+-- How far a file has grown by the statements of a text, and where it stops.
+use Rattle.std.proofs.Common.{◌≡◌, ◌⊎◌, inl, inr, ℕ, ◌≤◌, ◌<◌, List, [], ◌∷◌, ◌++◌, map, length, refl, sym, ◌∙◌, ap, subst, arith}
+use Rattle.std.proofs.lemmas.List.{append-nil, nil_from_length}
 use Rattle.tree_model.specs.Signatures.{Signature}
 use Rattle.formula_ast.specs.declared.file.File.{File}
-use Rattle.formula_ast.specs.declared.statement.Statement.{Statement}
-use Rattle.formula_ast.specs.Tokens.{Stream, end, bad, token, tokens_at}
-use Rattle.formula_reader.specs.Grammar.{Declaration, Equation, Written, symbols, solve, Part, mark, word, statement, declaration, declarations, equation, variables, ending, arguments, rest, Derives, Reads, Begins}
-use Rattle.formula_reader.specs.Grammar.Derives.{is_rest, is_mark, is_word, is_symbols, is_solve, is_declaration, last_declaration, next_declaration, is_equation, last_variable, next_variable, no_arguments, some_arguments, last_argument, next_argument}
-use Rattle.formula_reader.specs.Form.{Declares, IsStatement, Makes, HasEquations}
-use Rattle.formula_reader.specs.Form.Declares.{none, next}
-use Rattle.formula_reader.specs.Form.Makes.{nothing, declares, asks}
+use Rattle.formula_ast.specs.Tokens.{Stream, end, tokens_at}
+use Rattle.formula_reader.specs.Grammar.{Written, Part, statement, rest, Derives, Reads, Begins}
+use Rattle.formula_reader.specs.Grammar.Derives.{is_rest}
+use Rattle.formula_reader.specs.Form.{Makes}
+use Rattle.formula_reader.specs.Form.Makes.{nothing}
 use Rattle.formula_reader.specs.Extending.{Extends}
-use Rattle.formula_reader.specs.Extending.Extends.{by_symbols, by_solve}
 use Rattle.formula_reader.specs.Reading.{IsFront, ReadsAs, GoesOnAt, StopsAt}
-use Rattle.formula_reader.proofs.Shifts.{size}
-use Rattle.formula_reader.proofs.Unique.{agree_statements, further}
-
--- declarations make one signature of another
-one_signature : {σ τ ρ : Signature} {ds : List Declaration} → Declares σ ds τ → Declares σ ds ρ → τ ≡ ρ
-one_signature none none = refl
-one_signature (next a more) (next b others) = one_signature more others
-
--- one more statement behind those that made a file
-pub makes_more : {σ : Signature} {ws : List Written} {w : Written} {old new : File} → Makes σ ws old → Extends old w new → Makes σ (ws ++ w ∷ []) new
-makes_more (nothing p s) (by_symbols none_yet d preds solves) = declares d (nothing (preds ∙ p) solves)
-makes_more {new = new} (nothing p s) (by_solve {q = q} {s = t} none_yet is signature preds solves) =
-    subst (λ (σ : Signature). Makes σ (solve q ∷ []) new) signature
-    (asks (subst (λ (σ : Signature). IsStatement σ q t) (sym signature) is) (preds ∙ p) solves)
-makes_more (declares d more) e = declares d (makes_more more e)
-makes_more (asks is p s) (by_symbols none_yet d preds solves) = absurd (cc (s, none_yet))
-makes_more (asks is p s) (by_solve none_yet other signature preds solves) = absurd (cc (s, none_yet))
-
-nothing_behind_solve : {σ : Signature} {q : Equation} {w : Written} {more : List Written} {file : File} → Makes σ (solve q ∷ w ∷ more) file → ⊥
-nothing_behind_solve m = elim m [ ]
-
--- some file extends this one by the statement
-abbrev pub CanExtend : File → Written → Type 0
-CanExtend file w = (new : File) × Extends file w new
-
-first_extends : {σ : Signature} {w : Written} {more : List Written} {other : File} (file : File) → Makes σ (w ∷ more) other → σ ≡ file.signature → file.solves ≡ [] → CanExtend file w
-first_extends file (declares {τ = τ} {ds = ds} d more) e none_yet =
-    (record file { signature = τ }, by_symbols none_yet (subst (λ (σ : Signature). Declares σ ds τ) e d) refl none_yet)
-first_extends file (asks {q = q} {s = s} is p solves) e none_yet =
-    (record file { solves = s ∷ [] }, by_solve none_yet (subst (λ (σ : Signature). IsStatement σ q s) e is) refl refl refl)
-
--- where statements make a file and can go on, the next one extends the file
-next_extends : {σ : Signature} (ws : List Written) (w : Written) (more : List Written) (file other : File)
-    → Makes σ ws file → Makes σ (ws ++ w ∷ more) other → CanExtend file w
-next_extends [] w more file other (nothing p s) longer = first_extends file longer refl s
-next_extends (symbols ds ∷ ws) w more file other (declares d first) (declares e longer) =
-    next_extends ws w more file other first (subst (λ (σ : Signature). Makes σ (ws ++ w ∷ more) other) (one_signature e d) longer)
-next_extends (solve q ∷ []) w more file other (asks is p s) longer = absurd (nothing_behind_solve longer)
-next_extends (solve q ∷ (v ∷ ws)) w more file other first longer = elim first [ ]
+use Rattle.formula_reader.proofs.Unique.{further}
+use Rattle.formula_reader.proofs.Making.{makes_more, next_extends}
 
 -- the statements stand from the start up to here, and make the file
 pub record Progress (bytes : List ℕ) (file : File) (left : Stream) : Type 0 where
@@ -121,80 +80,5 @@ stops bytes file left offset far stuck goes = record {
         let on = further bytes far.statements others (far.on (rest left ∷ []) is_rest) front.begins (omega arith) in
         absurd (longer others on.more other behind front on.same on.begins w)
 
--- how many tokens stand behind the parts at the least
-abbrev size_behind : List Part → ℕ
-size_behind [] = 0
-size_behind (rest i ∷ s) = size i
-size_behind (mark kind ∷ s) = size_behind s
-size_behind (word kind text ∷ s) = size_behind s
-size_behind (statement w ∷ s) = size_behind s
-size_behind (declaration d ∷ s) = size_behind s
-size_behind (declarations ds ∷ s) = size_behind s
-size_behind (equation q ∷ s) = size_behind s
-size_behind (variables xs ∷ s) = size_behind s
-size_behind (ending xs ∷ s) = size_behind s
-size_behind (arguments xs ∷ s) = size_behind s
-
-at_least : {bytes : List ℕ} {s : List Part} {i : Stream} → Derives bytes s i → size_behind s ≤ size i
-at_least is_rest = omega arith
-at_least (is_mark e d) = omega (arith, at_least d)
-at_least (is_word e d) = omega (arith, at_least d)
-at_least (is_symbols d) = at_least d
-at_least (is_solve d) = at_least d
-at_least (is_declaration d) = at_least d
-at_least (last_declaration d) = at_least d
-at_least (next_declaration d) = at_least d
-at_least (is_equation d) = at_least d
-at_least (last_variable d) = at_least d
-at_least (next_variable d) = at_least d
-at_least (no_arguments d) = at_least d
-at_least (some_arguments d) = at_least d
-at_least (last_argument d) = at_least d
-at_least (next_argument d) = at_least d
-
-takes_a_token : {bytes : List ℕ} {w : Written} {i j : Stream} → Derives bytes (statement w ∷ rest j ∷ []) i → size j < size i
-takes_a_token (is_symbols (is_mark e d)) = omega (arith, at_least d)
-takes_a_token (is_solve (is_mark e d)) = omega (arith, at_least d)
-
--- a statement takes tokens
-pub statement_shorter : {bytes : List ℕ} {w : Written} {i j : Stream} → Reads bytes (statement w) i j → size j < size i
-statement_shorter {j = j} h = takes_a_token (h (rest j ∷ []) is_rest)
-
-pub stuck_in_text : {part bytes : List ℕ} {file : File} {left : Stream} → part ≡ bytes → IsStuck part file left → IsStuck bytes file left
-stuck_in_text {file = file} {left = left} e h = subst (λ (b : List ℕ). IsStuck b file left) e h
-
-extends_symbols : {file new : File} {ds : List Declaration} → Extends file (symbols ds) new → Declares file.signature ds new.signature
-extends_symbols (by_symbols none_yet d preds solves) = d
-
-extends_solve : {file new : File} {q : Equation} → Extends file (solve q) new → (s : Statement) × IsStatement file.signature q s
-extends_solve (by_solve {s = s} none_yet is signature preds solves) = (s, is)
-
--- symbols that can't be declared stand here
-pub stuck_symbols : {bytes : List ℕ} {file : File} {i j : Stream} (ds : List Declaration) → Reads bytes (statement (symbols ds)) i j → ((τ : Signature) → ¬ Declares file.signature ds τ) → IsStuck bytes file i
-stuck_symbols {bytes = bytes} {file = file} {j = j} ds h outside w s new d e =
-    let same : symbols ds ≡ w = (agree_statements bytes (h (rest j ∷ []) is_rest) d).same in
-    outside new.signature (extends_symbols (subst (λ (v : Written). Extends file v new) (sym same) e))
-
--- an equation that is no statement over the signature stands here
-pub stuck_solve : {bytes : List ℕ} {file : File} {i j : Stream} (q : Equation) → Reads bytes (statement (solve q)) i j → ((s : Statement) → ¬ IsStatement file.signature q s) → IsStuck bytes file i
-stuck_solve {bytes = bytes} {file = file} {j = j} q h outside w s new d e =
-    let same : solve q ≡ w = (agree_statements bytes (h (rest j ∷ []) is_rest) d).same in
-    let (t, is) = extends_solve (subst (λ (v : Written). Extends file v new) (sym same) e) in
-    outside t is
-
 pub none_solved : (file : File) (n : ℕ) → n ≡ length file.solves → n ≤ 0 → file.solves ≡ []
 none_solved file n e w = nil_from_length file.solves (omega arith)
-
-abbrev some_else : {A : Type 0} → A → Option A → A
-some_else d None = d
-some_else d (Some x) = x
-
--- the statements of a file that was made are equations
-pub makes_equations : {σ : Signature} {ws : List Written} {file : File} → Makes σ ws file → HasEquations file
-makes_equations {file = file} (nothing p s) i t got = absurd (cc (got, ap (λ (l : List Statement). slice_get l i) s))
-makes_equations (declares d more) i t got = makes_equations more i t got
-makes_equations {file = file} (asks {q = q} {s = s} is p solves) i t got = only i t (sym (ap (λ (l : List Statement). slice_get l i) solves) ∙ got)
-  where
-    only : (i : ℕ) (t : Statement) → slice_get (s ∷ []) i ≡ Some t → (q : Equation) × IsStatement file.signature q t
-    only zero t e = (q, subst (λ (u : Statement). IsStatement file.signature q u) (ap (λ o. some_else s o) e) is)
-    only (suc i) t e = absurd (cc e)

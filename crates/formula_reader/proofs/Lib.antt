@@ -1,9 +1,15 @@
-pub mod Built
 pub mod Declarations
 pub mod Equations
 pub mod Faults
+pub mod Finding
 pub mod Growing
-pub mod Listing
 pub mod ListSteps
+pub mod Listing
+pub mod Making
+pub mod Occurrences
 pub mod Shifts
+pub mod Sizes
+pub mod Stuck
+pub mod Symbols
 pub mod Unique
+pub mod Variables

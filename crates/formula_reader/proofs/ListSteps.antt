@@ -1,7 +1,7 @@
 -- What the turns of the loops that read lists keep.
-use Rattle.std.proofs.Common.{◌≡◌, ℕ, List, [], ◌∷◌, ◌++◌, refl, sym, ◌∙◌, ap, subst}
+use Rattle.std.proofs.Common.{◌≡◌, ℕ, List, [], ◌∷◌, ◌++◌, sym, ◌∙◌, subst}
 use Rattle.formula_ast.specs.declared.token.TokenKind.TheVariants as k
-use Rattle.formula_reader.specs.Grammar.{Declaration, Part, declaration, declarations, variables, arguments, Derives, Reads, NoneReads}
+use Rattle.formula_reader.specs.Grammar.{Declaration, Part, declaration, declarations, variables, arguments, Reads, NoneReads}
 use Rattle.formula_reader.specs.Input.{Input, left_of, StartsWith, Takes, TakesSome}
 use Rattle.formula_reader.proofs.Listing.{Listed, stepped, none, argument_on, argument_last, argument_back, argument_cut, variable_on, variable_last, variable_back, declaration_on, declaration_last, declaration_back, declaration_cut}
 use Rattle.formula_reader.proofs.Shifts.{shift_of}
@@ -12,7 +12,7 @@ pub record Far {A : Type 0} (p : List A → Part) (found : List A) (start now : 
   pub listed : Listed start.bytes p found (left_of start) (left_of now)
 
 -- the list ends: what was found stands from the start up to here
-pub last_item : {A : Type 0} (p : List A → Part) (found : List A) (x : A) (start now next : Input)
+last_item : {A : Type 0} (p : List A → Part) (found : List A) (x : A) (start now next : Input)
     → Far p found start now → Reads start.bytes (p (x ∷ [])) (left_of now) (left_of next) → Reads start.bytes (p (found ++ x ∷ [])) (left_of start) (left_of next)
 last_item p found x start now next far last s d = far.listed.reads (x ∷ []) s (last s d)
 

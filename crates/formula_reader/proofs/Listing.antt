@@ -1,14 +1,13 @@
 -- How far a list has been read.
-use Rattle.std.proofs.Common.{◌≡◌, ℕ, List, [], ◌∷◌, ◌++◌, map, refl, sym, ◌∙◌, ap, subst, append_assoc}
+use Rattle.std.proofs.Common.{◌≡◌, ℕ, List, [], ◌∷◌, ◌++◌, map, sym, ◌∙◌, ap, subst, append_assoc}
 use Rattle.std.proofs.lemmas.List.{map-append}
 use Rattle.std.specs.Borrow.{Bor}
 use Rattle.formula_reader.specs.declared.written.Declaration.{Declaration as DeclarationText}
 use Rattle.formula_reader.specs.WrittenAs.{declaration_of, texts_of}
-use Rattle.formula_ast.specs.declared.token.TokenKind.{TokenKind}
 use Rattle.formula_ast.specs.declared.token.TokenKind.TheVariants as k
 use Rattle.formula_ast.specs.Tokens.{Stream}
-use Rattle.formula_reader.specs.Grammar.{Declaration, Part, mark, word, declaration, declarations, variables, arguments, rest, Derives, Reads, NoneReads}
-use Rattle.formula_reader.specs.Grammar.Derives.{is_rest, is_declaration, last_declaration, next_declaration, last_variable, next_variable, last_argument, next_argument}
+use Rattle.formula_reader.specs.Grammar.{Declaration, Part, declaration, declarations, variables, arguments, Derives, Reads, NoneReads}
+use Rattle.formula_reader.specs.Grammar.Derives.{last_declaration, next_declaration, last_variable, next_variable, last_argument, next_argument}
 use Rattle.formula_reader.specs.Input.{StartsWith}
 use Rattle.formula_reader.proofs.Shifts.{Shifts, word_on, mark_on, word_back, mark_back, mark_starts, word_starts}
 use Rattle.formula_reader.proofs.Unique.{after_declaration}

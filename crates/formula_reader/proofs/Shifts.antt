@@ -1,8 +1,7 @@
 -- What a taken token says of the readings from its place on.
-use Rattle.std.proofs.Common.{◌≡◌, ℕ, ◌<◌, ◌≤◌, zero, suc, List, [], ◌∷◌, ◌++◌, map, refl, sym, ◌∙◌, ap, subst, arith, append_assoc}
+use Rattle.std.proofs.Common.{◌≡◌, ℕ, ◌<◌, suc, List, ◌∷◌, refl, sym, ◌∙◌, ap, subst, arith}
 use Rattle.formula_ast.specs.declared.token.Token.{Token}
 use Rattle.formula_ast.specs.declared.token.TokenKind.{TokenKind}
-use Rattle.formula_ast.specs.declared.token.TokenKind.TheVariants as k
 use Rattle.formula_ast.specs.Tokens.{Stream, end, bad, token, Word, word_of}
 use Rattle.formula_reader.specs.Grammar.{Part, mark, word, Derives}
 use Rattle.formula_reader.specs.Grammar.Derives.{is_mark, is_word}

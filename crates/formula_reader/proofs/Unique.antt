@@ -1,9 +1,8 @@
 -- A text is read in one way: the parts that begin with one token each are told by it.
-use Rattle.std.proofs.Common.{◌≡◌, ℕ, ◌≤◌, List, [], ◌∷◌, ◌++◌, map, length, refl, sym, ◌∙◌, ap, subst, arith}
-use Rattle.formula_ast.specs.declared.token.Token.{Token}
+use Rattle.std.proofs.Common.{◌≡◌, ℕ, ◌≤◌, List, [], ◌∷◌, ◌++◌, length, refl, sym, ◌∙◌, ap, subst, arith}
 use Rattle.formula_ast.specs.declared.token.TokenKind.{TokenKind}
 use Rattle.formula_ast.specs.declared.token.TokenKind.TheVariants as k
-use Rattle.formula_ast.specs.Tokens.{Stream, end, bad, token, Word, word_of}
+use Rattle.formula_ast.specs.Tokens.{Stream, end, Word}
 use Rattle.formula_reader.specs.Grammar.{Declaration, Equation, Written, symbols, solve, Part, mark, word, statement, declaration, declarations, equation, variables, ending, arguments, rest, Derives, Reads, Begins}
 use Rattle.formula_reader.specs.Grammar.Derives.{is_rest, is_mark, is_word, is_symbols, is_solve, is_declaration, last_declaration, next_declaration, is_equation, last_variable, next_variable, no_arguments, some_arguments, last_argument, next_argument}
 
@@ -35,7 +34,7 @@ module _ (bytes : List ℕ) where
   agree_declaration {d = d} {e = e} (is_declaration (is_word a (is_mark b (is_word c more)))) (is_declaration (is_word a' (is_mark b' (is_word c' more')))) =
       record { same = same_declaration d e a c a' c'; after = _; first = more; second = more' }
 
-  pub agree_declarations : {ds es : List Declaration} {s r : List Part} {i : Stream}
+  agree_declarations : {ds es : List Declaration} {s r : List Part} {i : Stream}
       → Derives bytes (declarations ds ∷ s) i → Derives bytes (declarations es ∷ r) i → Agree bytes ds es s r
   agree_declarations (last_declaration {d = d} (is_declaration (is_word a (is_mark b (is_word c (is_mark e more)))))) (last_declaration {d = d'} (is_declaration (is_word a' (is_mark b' (is_word c' (is_mark e' more')))))) =
       record { same = ap (λ x. x ∷ []) (same_declaration d d' a c a' c'); after = _; first = more; second = more' }
@@ -50,7 +49,7 @@ module _ (bytes : List ℕ) where
         second = others.second;
       }
 
-  pub agree_variables : {xs ys : List (List ℕ)} {s r : List Part} {i : Stream}
+  agree_variables : {xs ys : List (List ℕ)} {s r : List Part} {i : Stream}
       → Derives bytes (variables xs ∷ s) i → Derives bytes (variables ys ∷ r) i → Agree bytes xs ys s r
   agree_variables (last_variable (is_word a (is_mark b more))) (last_variable (is_word a' (is_mark b' more'))) =
       record { same = ap (λ x. x ∷ []) (same_text a a'); after = _; first = more; second = more' }
@@ -71,7 +70,7 @@ module _ (bytes : List ℕ) where
         second = others.second;
       }
 
-  pub agree_arguments : {xs ys : List (List ℕ)} {s r : List Part} {i : Stream}
+  agree_arguments : {xs ys : List (List ℕ)} {s r : List Part} {i : Stream}
       → Derives bytes (arguments xs ∷ s) i → Derives bytes (arguments ys ∷ r) i → Agree bytes xs ys s r
   agree_arguments (last_argument (is_word a (is_mark b more))) (last_argument (is_word a' (is_mark b' more'))) =
       record { same = ap (λ x. x ∷ []) (same_text a a'); after = _; first = more; second = more' }

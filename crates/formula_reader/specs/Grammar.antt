@@ -3,7 +3,7 @@ use Rattle.std.specs.Prelude.{◌≡◌, ℕ, List, [], ◌∷◌, ◌++◌, map
 use Rattle.formula_ast.specs.declared.token.Token.{Token}
 use Rattle.formula_ast.specs.declared.token.TokenKind.{TokenKind}
 use Rattle.formula_ast.specs.declared.token.TokenKind.TheVariants as k
-use Rattle.formula_ast.specs.Tokens.{Stream, end, bad, token, Word, word_of}
+use Rattle.formula_ast.specs.Tokens.{Stream, token, word_of}
 
 -- a declaration as it is written: a name, and the digits of its number of arguments
 pub record Declaration : Type 0 where

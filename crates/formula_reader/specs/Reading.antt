@@ -1,5 +1,5 @@
 -- What a text reads as, and where it is refused.
-use Rattle.std.specs.Prelude.{◌≡◌, ℕ, ◌≤◌, ◌<◌, List, [], length}
+use Rattle.std.specs.Prelude.{ℕ, ◌≤◌, ◌<◌, List, [], length}
 use Rattle.formula_ast.specs.declared.token.Token.{Token}
 use Rattle.formula_ast.specs.declared.file.File.{File}
 use Rattle.formula_ast.specs.Tokens.{Stream, end, bad, token, tokens_at}

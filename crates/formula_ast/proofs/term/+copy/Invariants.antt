@@ -1,4 +1,4 @@
-use Rattle.std.proofs.Common.{◌≡◌, List, take}
+use Rattle.std.proofs.Common.{◌≡◌, take}
 use Rattle.formula_ast.proofs.term.+copy.Given as goal
 
 abbrev pub invariant-Terms::copy-loop-item : goal.invariant-Terms::copy-loop-item

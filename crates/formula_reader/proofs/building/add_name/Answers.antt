@@ -2,7 +2,7 @@ use Rattle.std.proofs.Common.{◌≡◌, true, false, sym, ap, ◌∙◌}
 use Rattle.std.specs.Str.{bytes_eq}
 use Rattle.std.specs.List.{list_any}
 use Rattle.std.specs.Option.{is_some}
-use Rattle.formula_reader.proofs.Built.{found_any}
+use Rattle.formula_reader.proofs.Finding.{found_any}
 use Rattle.formula_reader.proofs.building.add_name.Goals as goal
 
 pub returns-then-is_some-clause-added : goal.returns-then-is_some-clause-added

@@ -1,5 +1,5 @@
 use Rattle.std.proofs.Common.{◌+◌, ◌-◌, ◌*◌, drop, get_or, arith}
-use Rattle.formula_reader.proofs.Built.{value_rises, value_step}
+use Rattle.formula_reader.proofs.Symbols.{value_rises, value_step}
 use Rattle.formula_reader.proofs.building.arity_of.Goals as goal
 
 pub returns-then-value-gt-MOST_ARGUMENTS : goal.returns-then-value-gt-MOST_ARGUMENTS

@@ -1,4 +1,4 @@
-use Rattle.formula_reader.proofs.Built.{standing_is_old}
+use Rattle.formula_reader.proofs.Symbols.{standing_is_old}
 use Rattle.formula_reader.proofs.building.declare.Goals as goal
 
 pub returns-in-Err-Twice-clause-outside : goal.returns-in-Err-Twice-clause-outside

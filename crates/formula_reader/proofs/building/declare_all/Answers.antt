@@ -1,7 +1,7 @@
 use Rattle.std.proofs.lemmas.List.{drop_all}
 use Rattle.formula_reader.specs.Form.Declares.{none}
 use Rattle.std.proofs.lemmas.Result.{err_from_is_err_and}
-use Rattle.formula_reader.proofs.Built.{declare_on, declare_back, declare_may}
+use Rattle.formula_reader.proofs.Symbols.{declare_on, declare_back, declare_may}
 use Rattle.formula_reader.proofs.building.declare_all.Goals as goal
 
 pub returns-in_err-declare-clause-outside : goal.returns-in_err-declare-clause-outside

@@ -2,7 +2,7 @@ use Rattle.std.proofs.Common.{◌≤◌, ℕ, List, [], length, All, arith, subs
 use Rattle.std.specs.Borrow.{Bor}
 use Rattle.std.proofs.lemmas.List.{take_all}
 use Rattle.std.proofs.lemmas.List.Elements.{All-more, All-map}
-use Rattle.formula_reader.proofs.Built.{all_at, names_step}
+use Rattle.formula_reader.proofs.Variables.{all_at, names_step}
 use Rattle.formula_reader.proofs.building.names_of.Goals as goal
 
 pub returns-then-variable-gt-MOST_NAME_BYTES-clause-outside : goal.returns-then-variable-gt-MOST_NAME_BYTES-clause-outside

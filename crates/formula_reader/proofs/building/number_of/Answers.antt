@@ -1,6 +1,6 @@
 use Rattle.std.proofs.Common.{sym}
 use Rattle.std.specs.Str.{bytes_eq}
-use Rattle.formula_reader.proofs.Built.{not_here, here}
+use Rattle.formula_reader.proofs.Finding.{not_here, here}
 use Rattle.formula_reader.proofs.building.number_of.Goals as goal
 
 pub returns-then-eq : goal.returns-then-eq

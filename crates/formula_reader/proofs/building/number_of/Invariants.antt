@@ -1,5 +1,5 @@
 use Rattle.std.specs.Str.{bytes_eq}
-use Rattle.formula_reader.proofs.Built.{NotBefore}
+use Rattle.formula_reader.proofs.Finding.{NotBefore}
 use Rattle.formula_reader.proofs.building.number_of.Given as goal
 
 abbrev pub invariant-loop-i : goal.invariant-loop-i

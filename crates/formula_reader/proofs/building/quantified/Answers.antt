@@ -8,7 +8,8 @@ use Rattle.formula_ast.specs.Forms.{form_of, exists}
 use Rattle.formula_ast.proofs.Ties.{exists_form}
 use Rattle.formula_reader.specs.Form.{number_in, behind}
 use Rattle.formula_reader.specs.WrittenAs.{texts_of}
-use Rattle.formula_reader.proofs.Built.{behind_step, all_pop, there_is_found, number_found}
+use Rattle.formula_reader.proofs.Finding.{there_is_found, number_found}
+use Rattle.formula_reader.proofs.Variables.{behind_step, all_pop}
 use Rattle.formula_reader.proofs.building.quantified.Goals as goal
 
 pub returns-in_default : goal.returns-in_default

@@ -13,7 +13,8 @@ use Rattle.tree_model.specs.declared.kind.Kind.TheVariants as kind
 use Rattle.tree_model.specs.declared.tree.Symbol.TheVariants.{Named}
 use Rattle.formula_reader.specs.Form.{first_occurrences, number_in, variable_terms, behind}
 use Rattle.formula_reader.specs.WrittenAs.{texts_of}
-use Rattle.formula_reader.proofs.Built.{bound_in, bound_from, all_bound_in, all_bound_from, there_is_found, found_is_there, number_found}
+use Rattle.formula_reader.proofs.Finding.{there_is_found, found_is_there, number_found}
+use Rattle.formula_reader.proofs.Occurrences.{bound_in, bound_from, all_bound_in, all_bound_from}
 use Rattle.formula_reader.proofs.building.statement_of.Goals as goal
 
 pub returns-in_default-number_of-clause-outside : goal.returns-in_default-number_of-clause-outside

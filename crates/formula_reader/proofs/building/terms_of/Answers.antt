@@ -6,7 +6,8 @@ use Rattle.std.specs.Prelude.{position}
 use Rattle.std.specs.Str.{bytes_eq}
 use Rattle.formula_ast.specs.declared.term.Term.TheVariants as term
 use Rattle.formula_ast.specs.Terms.{list_of}
-use Rattle.formula_reader.proofs.Built.{all_at, terms_step, there_is_found, found_is_there, told_ok}
+use Rattle.formula_reader.proofs.Finding.{there_is_found, found_is_there}
+use Rattle.formula_reader.proofs.Variables.{all_at, terms_step, told_ok}
 use Rattle.formula_reader.proofs.building.terms_of.Goals as goal
 
 pub returns-in_default-clause-outside : goal.returns-in_default-clause-outside

@@ -1,9 +1,10 @@
-use Rattle.std.proofs.Common.{◌≡◌, refl, sym, subst, ap, map}
+use Rattle.std.proofs.Common.{refl, map}
 use Rattle.std.proofs.lemmas.Result.{err_from_is_err_and}
 use Rattle.formula_reader.specs.WrittenAs.{declaration_of, equation_of}
 use Rattle.formula_reader.specs.Extending.Extends.{by_symbols, by_solve}
 use Rattle.formula_reader.proofs.Equations.{not_built}
-use Rattle.formula_reader.proofs.Growing.{stuck_symbols, stuck_solve, none_solved}
+use Rattle.formula_reader.proofs.Growing.{none_solved}
+use Rattle.formula_reader.proofs.Stuck.{stuck_symbols, stuck_solve}
 use Rattle.formula_reader.proofs.file_reader.add_statement.Goals as goal
 
 pub returns-in-Symbols-clause-adds : goal.returns-in-Symbols-clause-adds

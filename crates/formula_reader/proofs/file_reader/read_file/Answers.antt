@@ -1,9 +1,11 @@
-use Rattle.std.proofs.Common.{◌≡◌, ℕ, List, length, refl, sym, ◌∙◌, subst, ap, arith}
+use Rattle.std.proofs.Common.{ℕ, List, length, refl, ◌∙◌, ap}
 use Rattle.formula_ast.specs.Tokens.{end}
-use Rattle.formula_reader.specs.Input.{left_of}
 use Rattle.formula_reader.specs.Reading.IsFirstFault.{too_long, not_built}
 use Rattle.formula_reader.proofs.Equations.{in_text}
-use Rattle.formula_reader.proofs.Growing.{makes_equations, Progress, begun, stepped, stuck_in_text, read_whole, stops, statement_shorter}
+use Rattle.formula_reader.proofs.Growing.{begun, stepped, read_whole, stops}
+use Rattle.formula_reader.proofs.Making.{makes_equations}
+use Rattle.formula_reader.proofs.Sizes.{statement_shorter}
+use Rattle.formula_reader.proofs.Stuck.{stuck_in_text}
 use Rattle.formula_reader.proofs.file_reader.read_file.Goals as goal
 
 pub statements-init : goal.statements-init

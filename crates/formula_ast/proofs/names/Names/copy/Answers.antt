@@ -1,4 +1,3 @@
-use Rattle.std.proofs.Common.{◌≡◌, ◌+◌, sym, ◌∙◌}
 use Rattle.formula_ast.proofs.Lists.{take_more_got}
 use Rattle.formula_ast.proofs.names.Names.copy.Goals as goal
 

@@ -1,4 +1,4 @@
-use Rattle.std.proofs.Common.{◌≡◌, refl, ap, arith}
+use Rattle.std.proofs.Common.{refl, ap, arith}
 use Rattle.formula_reader.specs.Grammar.{declarations}
 use Rattle.formula_reader.specs.Input.{Input, left_of}
 use Rattle.formula_reader.proofs.Declarations.{declaration_shorter}

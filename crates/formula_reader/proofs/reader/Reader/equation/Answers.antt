@@ -1,7 +1,6 @@
-use Rattle.std.proofs.Common.{◌≡◌, refl}
 use Rattle.std.proofs.lemmas.Result.{err_from_is_err_and}
 use Rattle.formula_reader.specs.WrittenAs.{texts_of}
-use Rattle.formula_reader.proofs.Equations.{not_built, quantified, no_exists, no_variables, no_left, no_equal, no_name, no_end, equation_read}
+use Rattle.formula_reader.proofs.Equations.{not_built, quantified, no_exists, no_left, no_equal, no_name, no_end, equation_read}
 use Rattle.formula_reader.proofs.reader.Reader.equation.Goals as goal
 
 pub returns-in_err-expect-clause-outside : goal.returns-in_err-expect-clause-outside

@@ -1,4 +1,4 @@
-use Rattle.std.proofs.Common.{◌≡◌, sym, ◌∙◌, subst, ap}
+use Rattle.std.proofs.Common.{sym, ◌∙◌, subst, ap}
 use Rattle.formula_ast.specs.Tokens.{Stream}
 use Rattle.formula_reader.specs.Input.{Input, left_of}
 use Rattle.formula_reader.specs.Reading.{GoesOnAt}

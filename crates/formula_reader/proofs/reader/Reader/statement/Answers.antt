@@ -1,7 +1,7 @@
-use Rattle.std.proofs.Common.{◌≡◌, refl, subst}
+use Rattle.std.proofs.Common.{subst}
 use Rattle.formula_ast.specs.declared.token.TokenKind.TheVariants as k
 use Rattle.formula_reader.specs.Input.{Input, left_of, StartsWith, Takes}
-use Rattle.formula_reader.proofs.Equations.{symbols_read, no_symbols, solve_read, no_solve, no_word}
+use Rattle.formula_reader.proofs.Equations.{symbols_read, solve_read, no_word}
 use Rattle.formula_reader.proofs.reader.Reader.statement.Goals as goal
 
 pub returns-then-skip-clause-reads : goal.returns-then-skip-clause-reads
