@@ -14,4 +14,4 @@ mod written;
 pub use fault::{Fault, FaultKind, ReadError};
 pub use file_reader::{MOST_BYTES, read_file};
 pub use formula_tokens::{Token, TokenKind, next_token};
-pub use laws::a_text_is_a_file_or_has_one_fault;
+pub use laws::at_most_one_outcome;

@@ -254,6 +254,6 @@ fn errors_are_printed(rt: HostRuntime) -> Result<(), Fail> {
     });
     let printed = format!(in rt.alloc(); "{error}, {}", ReadError::NoMemory)?;
     assert_eq!(rt; printed.as_str(), "byte 12: NotBuilt, out of memory");
-    a_text_is_a_file_or_has_one_fault();
+    at_most_one_outcome();
     Ok(())
 }
