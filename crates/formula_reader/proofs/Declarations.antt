@@ -2,7 +2,8 @@
 use Rattle.std.proofs.Common.{◌≡◌, ◌<◌, arith, ℕ, List, [], ◌∷◌, refl}
 use Rattle.formula_ast.specs.declared.token.TokenKind.TheVariants as k
 use Rattle.formula_ast.specs.Tokens.{Stream}
-use Rattle.formula_reader.specs.Grammar.{Declaration, declaration, rest, Derives, Reads, NoneReads}
+use Rattle.formula_reader.specs.Written.{Declaration}
+use Rattle.formula_reader.specs.Grammar.{declaration, rest, Derives, Reads, NoneReads}
 use Rattle.formula_reader.specs.Grammar.Derives.{is_rest, is_mark, is_word, is_declaration}
 use Rattle.formula_reader.specs.Input.{Input, left_of, StartsWith, Takes}
 use Rattle.formula_reader.proofs.Shifts.{size, shift_of, word_on, mark_on, word_back, mark_back, mark_starts, word_starts}

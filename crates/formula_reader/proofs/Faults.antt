@@ -5,7 +5,8 @@ use Rattle.formula_ast.specs.declared.file.File.{File}
 use Rattle.formula_ast.specs.Tokens.{Stream, end}
 use Rattle.formula_reader.specs.declared.fault.Fault.{Fault}
 use Rattle.formula_reader.specs.declared.fault.FaultKind.TheVariants.{NotBuilt}
-use Rattle.formula_reader.specs.Grammar.{Written, Begins}
+use Rattle.formula_reader.specs.Written.{Written}
+use Rattle.formula_reader.specs.Grammar.{Begins}
 use Rattle.formula_reader.specs.Reading.{ReadsAs, GoesOnAt, at_token, at_byte, StopsAt, IsFirstFault, too_long, not_built}
 use Rattle.formula_reader.proofs.Unique.{ended, further, at_end}
 

@@ -4,7 +4,8 @@ use Rattle.std.proofs.lemmas.List.{append-nil, nil_from_length}
 use Rattle.tree_model.specs.Signatures.{Signature}
 use Rattle.formula_ast.specs.declared.file.File.{File}
 use Rattle.formula_ast.specs.Tokens.{Stream, end, tokens_at}
-use Rattle.formula_reader.specs.Grammar.{Written, Part, statement, rest, Derives, Reads, Begins}
+use Rattle.formula_reader.specs.Written.{Written}
+use Rattle.formula_reader.specs.Grammar.{Part, statement, rest, Derives, Reads, Begins}
 use Rattle.formula_reader.specs.Grammar.Derives.{is_rest}
 use Rattle.formula_reader.specs.Form.{Makes}
 use Rattle.formula_reader.specs.Form.Makes.{nothing}

@@ -1,9 +1,10 @@
 -- What the turns of the loops that read lists keep.
 use Rattle.std.proofs.Common.{◌≡◌, ℕ, List, [], ◌∷◌, ◌++◌, sym, ◌∙◌, subst}
 use Rattle.formula_ast.specs.declared.token.TokenKind.TheVariants as k
-use Rattle.formula_reader.specs.Grammar.{Declaration, Part, declaration, declarations, variables, arguments, Reads, NoneReads}
+use Rattle.formula_reader.specs.Written.{Declaration}
+use Rattle.formula_reader.specs.Grammar.{Part, declaration, declarations, variables, Reads, NoneReads}
 use Rattle.formula_reader.specs.Input.{Input, left_of, StartsWith, Takes, TakesSome}
-use Rattle.formula_reader.proofs.Listing.{Listed, stepped, none, argument_on, argument_last, argument_back, argument_cut, variable_on, variable_last, variable_back, declaration_on, declaration_last, declaration_back, declaration_cut}
+use Rattle.formula_reader.proofs.Listing.{Listed, stepped, none, variable_on, variable_last, variable_back, declaration_on, declaration_last, declaration_back, declaration_cut}
 use Rattle.formula_reader.proofs.Shifts.{shift_of}
 
 -- the reader stands in the same text, and has come so far in the list
@@ -12,32 +13,11 @@ pub record Far {A : Type 0} (p : List A → Part) (found : List A) (start now : 
   pub listed : Listed start.bytes p found (left_of start) (left_of now)
 
 -- the list ends: what was found stands from the start up to here
-last_item : {A : Type 0} (p : List A → Part) (found : List A) (x : A) (start now next : Input)
+pub last_item : {A : Type 0} (p : List A → Part) (found : List A) (x : A) (start now next : Input)
     → Far p found start now → Reads start.bytes (p (x ∷ [])) (left_of now) (left_of next) → Reads start.bytes (p (found ++ x ∷ [])) (left_of start) (left_of next)
 last_item p found x start now next far last s d = far.listed.reads (x ∷ []) s (last s d)
 
 module _ (found : List (List ℕ)) (x : List ℕ) (start now mid : Input) where
-  pub next_argument : Far arguments found start now → Takes k.Variable x now mid → (skipped : Input) → skipped ≡ mid → {c : List ℕ} {next : Input} → Takes k.Comma c skipped next
-      → Far arguments (found ++ x ∷ []) start next
-  next_argument far t skipped same {c = c} {next = next} comma =
-      let from_mid : Takes k.Comma c mid next = subst (λ (i : Input). Takes k.Comma c i next) same comma in
-      let in_text : mid.bytes ≡ start.bytes = t.bytes ∙ far.bytes in
-      record {
-        bytes = from_mid.bytes ∙ in_text;
-        listed = stepped start.bytes arguments found x _ _ _ far.listed (argument_on (shift_of far.bytes t) (shift_of in_text from_mid)) (argument_back (shift_of far.bytes t) (shift_of in_text from_mid));
-      }
-
-  pub last_argument : Far arguments found start now → Takes k.Variable x now mid → {next : Input} → TakesSome k.RightParen mid next
-      → Reads start.bytes (arguments (found ++ x ∷ [])) (left_of start) (left_of next)
-  last_argument far t {next = next} (c, closed) =
-      last_item arguments found x start now next far (argument_last (shift_of far.bytes t) (shift_of (t.bytes ∙ far.bytes) closed))
-
-  pub cut_argument : Far arguments found start now → Takes k.Variable x now mid → ¬ StartsWith k.RightParen (left_of mid) → (skipped : Input) → skipped ≡ mid
-      → ¬ StartsWith k.Comma (left_of skipped) → NoneReads start.bytes arguments (left_of start)
-  cut_argument far t no_end skipped same no_comma =
-      none start.bytes arguments found _ _ far.listed
-      (argument_cut (shift_of far.bytes t) no_end (subst (λ (i : Input). ¬ StartsWith k.Comma (left_of i)) same no_comma))
-
   pub next_variable : Far variables found start now → Takes k.Variable x now mid → ¬ StartsWith k.Colon (left_of mid) → (skipped : Input) → skipped ≡ mid
       → Far variables (found ++ x ∷ []) start skipped
   next_variable far t no_end skipped same = subst (λ (i : Input). Far variables (found ++ x ∷ []) start i) (sym same) (record {

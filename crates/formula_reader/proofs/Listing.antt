@@ -6,8 +6,9 @@ use Rattle.formula_reader.specs.declared.written.Declaration.{Declaration as Dec
 use Rattle.formula_reader.specs.WrittenAs.{declaration_of, texts_of}
 use Rattle.formula_ast.specs.declared.token.TokenKind.TheVariants as k
 use Rattle.formula_ast.specs.Tokens.{Stream}
-use Rattle.formula_reader.specs.Grammar.{Declaration, Part, declaration, declarations, variables, arguments, Derives, Reads, NoneReads}
-use Rattle.formula_reader.specs.Grammar.Derives.{last_declaration, next_declaration, last_variable, next_variable, last_argument, next_argument}
+use Rattle.formula_reader.specs.Written.{Declaration}
+use Rattle.formula_reader.specs.Grammar.{Part, declaration, declarations, variables, Derives, Reads, NoneReads}
+use Rattle.formula_reader.specs.Grammar.Derives.{last_declaration, next_declaration, last_variable, next_variable}
 use Rattle.formula_reader.specs.Input.{StartsWith}
 use Rattle.formula_reader.proofs.Shifts.{Shifts, word_on, mark_on, word_back, mark_back, mark_starts, word_starts}
 use Rattle.formula_reader.proofs.Unique.{after_declaration}
@@ -39,22 +40,6 @@ module _ {A : Type 0} (bytes : List ℕ) (p : List A → Part) where
 
 -- a variable was taken
 module _ {bytes : List ℕ} {x : List ℕ} {now mid : Stream} (h : Shifts bytes k.Variable x now mid) where
-  pub argument_on : {c : List ℕ} {next : Stream} → Shifts bytes k.Comma c mid next
-      → (xs : List (List ℕ)) (s : List Part) → Derives bytes (arguments xs ∷ s) next → Derives bytes (arguments (x ∷ xs) ∷ s) now
-  argument_on g xs s d = next_argument (word_on h (mark_on g d))
-
-  pub argument_last : {c : List ℕ} {next : Stream} → Shifts bytes k.RightParen c mid next → Reads bytes (arguments (x ∷ [])) now next
-  argument_last g s d = last_argument (word_on h (mark_on g d))
-
-  pub argument_back : {c : List ℕ} {next : Stream} → Shifts bytes k.Comma c mid next
-      → (s : List Part) → Some bytes arguments s now → Some bytes arguments s next
-  argument_back g s (xs, last_argument d) = absurd (cc (mark_back g (word_back h d).more).same_kind)
-  argument_back g s (xs, next_argument {xs = ys} d) = (ys, (mark_back g (word_back h d).more).more)
-
-  pub argument_cut : ¬ StartsWith k.RightParen mid → ¬ StartsWith k.Comma mid → (s : List Part) → Some bytes arguments s now → ⊥
-  argument_cut no_end no_comma s (xs, last_argument d) = no_end (mark_starts (word_back h d).more)
-  argument_cut no_end no_comma s (xs, next_argument d) = no_comma (mark_starts (word_back h d).more)
-
   pub variable_on : (xs : List (List ℕ)) (s : List Part) → Derives bytes (variables xs ∷ s) mid → Derives bytes (variables (x ∷ xs) ∷ s) now
   variable_on xs s d = next_variable (word_on h d)
 
@@ -67,10 +52,6 @@ module _ {bytes : List ℕ} {x : List ℕ} {now mid : Stream} (h : Shifts bytes 
 
 -- no variable stands here
 module _ {bytes : List ℕ} {now : Stream} (absent : ¬ StartsWith k.Variable now) where
-  pub no_argument : (s : List Part) → Some bytes arguments s now → ⊥
-  no_argument s (xs, last_argument d) = absent (word_starts d)
-  no_argument s (xs, next_argument d) = absent (word_starts d)
-
   pub no_variable : (s : List Part) → Some bytes variables s now → ⊥
   no_variable s (xs, last_variable d) = absent (word_starts d)
   no_variable s (xs, next_variable d) = absent (word_starts d)

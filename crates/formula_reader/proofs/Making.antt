@@ -4,7 +4,7 @@ use Rattle.std.specs.Prelude.{slice_get}
 use Rattle.tree_model.specs.Signatures.{Signature}
 use Rattle.formula_ast.specs.declared.file.File.{File}
 use Rattle.formula_ast.specs.declared.statement.Statement.{Statement}
-use Rattle.formula_reader.specs.Grammar.{Declaration, Equation, Written, symbols, solve}
+use Rattle.formula_reader.specs.Written.{Declaration, Question, Written, symbols, solve}
 use Rattle.formula_reader.specs.Form.{Declares, IsStatement, Makes, HasEquations}
 use Rattle.formula_reader.specs.Form.Declares.{none, next}
 use Rattle.formula_reader.specs.Form.Makes.{nothing, declares, asks}
@@ -27,7 +27,7 @@ makes_more (declares d more) e = declares d (makes_more more e)
 makes_more (asks is p s) (by_symbols none_yet d preds solves) = absurd (cc (s, none_yet))
 makes_more (asks is p s) (by_solve none_yet other signature preds solves) = absurd (cc (s, none_yet))
 
-nothing_behind_solve : {σ : Signature} {q : Equation} {w : Written} {more : List Written} {file : File} → Makes σ (solve q ∷ w ∷ more) file → ⊥
+nothing_behind_solve : {σ : Signature} {q : Question} {w : Written} {more : List Written} {file : File} → Makes σ (solve q ∷ w ∷ more) file → ⊥
 nothing_behind_solve m = elim m [ ]
 
 -- some file extends this one by the statement
@@ -55,6 +55,6 @@ makes_equations {file = file} (nothing p s) i t got = absurd (cc (got, ap (λ (l
 makes_equations (declares d more) i t got = makes_equations more i t got
 makes_equations {file = file} (asks {q = q} {s = s} is p solves) i t got = only i t (sym (ap (λ (l : List Statement). slice_get l i) solves) ∙ got)
   where
-    only : (i : ℕ) (t : Statement) → slice_get (s ∷ []) i ≡ Some t → (q : Equation) × IsStatement file.signature q t
+    only : (i : ℕ) (t : Statement) → slice_get (s ∷ []) i ≡ Some t → (q : Question) × IsStatement file.signature q t
     only zero t e = (q, subst (λ (u : Statement). IsStatement file.signature q u) (ap (λ o. unwrap_or o s) e) is)
     only (suc i) t e = absurd (cc e)

@@ -3,7 +3,7 @@ use Rattle.std.proofs.Common.{◌≡◌, ℕ, zero, suc, Bool, true, false, List
 use Rattle.std.specs.Str.{bytes_eq}
 use Rattle.std.specs.List.{list_any}
 use Rattle.std.proofs.lemmas.List.{get_or_default}
-use Rattle.std.proofs.lemmas.List.Elements.{All-weaker, Contains-append_left, Contains-push, Contains-push_cases}
+use Rattle.std.proofs.lemmas.List.Elements.{All-contains_itself, All-weaker, Contains-append_left, Contains-push, Contains-push_cases}
 use Rattle.std.proofs.lemmas.List.Folds.{Any-from_list_any}
 use Rattle.std.proofs.lemmas.Slice.Eq.{bytes_eq-Decides}
 use Rattle.formula_reader.specs.Form.{first_occurrences}
@@ -57,7 +57,7 @@ first_has_only (name ∷ names) seen x there =
     by_case (inr (k, within, is)) = inr (suc k, omega arith, is)
 
 -- the first occurrences of a list have no other names than the list
-first_are : (names : List (List ℕ)) (x : List ℕ) → Contains (first_occurrences [] names) x → Contains names x
+pub first_are : (names : List (List ℕ)) (x : List ℕ) → Contains (first_occurrences [] names) x → Contains names x
 first_are names x there = by_case (first_has_only names [] x there)
   where
     by_case : Contains [] x ⊎ Contains names x → Contains names x
@@ -65,15 +65,6 @@ first_are names x there = by_case (first_has_only names [] x there)
     by_case (inr here) = here
 
 -- the names of a list of variables are those in it
-module _ (names xs : List (List ℕ)) (is : names ≡ first_occurrences [] xs) where
-  pub bound_in : {x : List ℕ} → Contains xs x → Contains names x
-  bound_in {x = x} there = subst (λ (l : List (List ℕ)). Contains l x) (sym is) (first_has xs [] x there)
-
-  pub bound_from : {x : List ℕ} → Contains names x → Contains xs x
-  bound_from {x = x} there = first_are xs x (subst (λ (l : List (List ℕ)). Contains l x) is there)
-
-  pub all_bound_in : (ys : List (List ℕ)) → All (λ y. Contains xs y) ys → All (λ y. Contains names y) ys
-  all_bound_in ys all = All-weaker (λ y. Contains xs y) (λ y. Contains names y) (λ y there. bound_in there) ys all
-
-  pub all_bound_from : (ys : List (List ℕ)) → All (λ y. Contains names y) ys → All (λ y. Contains xs y) ys
-  all_bound_from ys all = All-weaker (λ y. Contains names y) (λ y. Contains xs y) (λ y there. bound_from there) ys all
+pub all_bound_in : (names xs : List (List ℕ)) → names ≡ first_occurrences [] xs → All (λ x. Contains names x) xs
+all_bound_in names xs is =
+    All-weaker (λ y. Contains xs y) (λ y. Contains names y) (λ y there. subst (λ (l : List (List ℕ)). Contains l y) (sym is) (first_has xs [] y there)) xs (All-contains_itself xs)

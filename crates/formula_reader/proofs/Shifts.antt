@@ -62,3 +62,15 @@ mark_starts (is_mark e d) = e
 
 pub word_starts : {bytes : List ℕ} {kind : TokenKind} {text : List ℕ} {s : List Part} {i : Stream} → Derives bytes (word kind text ∷ s) i → StartsWith kind i
 word_starts (is_word e d) = ap (λ (w : Word). w.kind) e
+
+-- the text of a word that stands where a token was taken
+pub word_same : {bytes : List ℕ} {kind other : TokenKind} {text written : List ℕ} {s : List Part} {i j : Stream}
+    → Shifts bytes kind text i j → Derives bytes (word other written ∷ s) i → text ≡ written
+word_same {bytes = bytes} {other = other} {text = text} {written = written} {s = s} h d = told refl (subst (λ (l : Stream). Derives bytes (word other written ∷ s) l) h.left d)
+  where
+    told : {t : Token} {j : Stream} → t ≡ h.taken → Derives bytes (word other written ∷ s) (token t j) → text ≡ written
+    told e (is_word w d) = sym (ap (λ (v : Word). v.text) h.word) ∙ ap (λ (u : Token). (word_of bytes u).text) (sym e) ∙ ap (λ (v : Word). v.text) w
+
+-- a token that was taken stood there
+pub shift_starts : {bytes : List ℕ} {kind : TokenKind} {text : List ℕ} {i j : Stream} → Shifts bytes kind text i j → StartsWith kind i
+shift_starts {kind = kind} h = subst (λ (l : Stream). StartsWith kind l) (sym h.left) (ap (λ (w : Word). w.kind) h.word)

@@ -7,7 +7,7 @@ use Rattle.tree_model.specs.Signatures.{Signature, Entry}
 use Rattle.signature.specs.Names.{StandsAt}
 use Rattle.formula_reader.specs.declared.written.Declaration.{Declaration as DeclarationText}
 use Rattle.formula_reader.specs.WrittenAs.{declaration_of}
-use Rattle.formula_reader.specs.Grammar.{Declaration}
+use Rattle.formula_reader.specs.Written.{Declaration}
 use Rattle.formula_reader.specs.Form.{value_from, IsNew, symbol_entry, MayDeclare, Declares, next}
 
 -- more digits make no smaller number

@@ -1,17 +1,11 @@
--- What is kept while the variables of an equation are gone through.
-use Rattle.std.proofs.Common.{◌≡◌, ℕ, ◌+◌, ◌<◌, false, List, [], ◌∷◌, ◌++◌, map, length, drop, get_or, Some, Result, Ok, Err, refl, sym, ap, ◌∙◌, subst, All}
-use Rattle.std.specs.Prelude.{position}
-use Rattle.std.specs.Str.{bytes_eq}
-use Rattle.std.specs.Result.{OnOk, is_err}
-use Rattle.std.proofs.lemmas.List.{append_assoc, map_push, drop_more, get_or-map, length-map}
+-- What is kept while the variables of a quantifier are gone through.
+use Rattle.std.proofs.Common.{◌≡◌, ℕ, ◌+◌, ◌<◌, List, [], ◌∷◌, ◌++◌, map, length, drop, get_or, Some, refl, sym, ap, ◌∙◌, subst, All}
+use Rattle.std.proofs.lemmas.List.{map_push, drop_more, get_or-map, length-map}
 use Rattle.std.proofs.lemmas.List.Elements.{All-pop}
 use Rattle.std.specs.Borrow.{Bor}
 use Rattle.formula_ast.specs.Forms.{Form, exists}
-use Rattle.formula_ast.specs.declared.term.Term.{Term}
-use Rattle.formula_ast.specs.declared.term.Term.TheVariants as term
 use Rattle.formula_reader.specs.WrittenAs.{texts_of}
-use Rattle.formula_reader.specs.Form.{first_occurrences, variable_terms, behind}
-use Rattle.formula_reader.proofs.Finding.{number_found}
+use Rattle.formula_reader.specs.Form.{first_occurrences, behind}
 
 -- what holds of each element of a list that is mapped
 pub all_at : {A B : Type 0} (P : B → Type 0) (f : A → B) (xs : List A) (i : ℕ) (d : A) → i < length xs → All P (map f xs) → P (f (get_or xs i d))
@@ -25,14 +19,6 @@ module _ (xs : List (Bor (List ℕ))) (i : ℕ) (d : Bor (List ℕ)) (within : i
       → first_occurrences names (texts_of (drop (i + 1) xs)) ≡ first_occurrences seen (texts_of (drop i xs))
   names_step seen names is =
       ap (λ n. first_occurrences n (texts_of (drop (i + 1) xs))) is ∙ sym (ap (λ l. first_occurrences seen (texts_of l)) (drop_more xs i d within))
-
-  pub terms_step : (names : List (List ℕ)) (ts us : List Term) (n : ℕ) → position (λ name. bytes_eq name (get_or xs i d).now) names ≡ Some n → us ≡ ts ++ term.Var n ∷ []
-      → us ++ variable_terms names (texts_of (drop (i + 1) xs)) ≡ ts ++ variable_terms names (texts_of (drop i xs))
-  terms_step names ts us n found is =
-      let rest = variable_terms names (texts_of (drop (i + 1) xs)) in
-      ap (λ l. l ++ rest) is ∙ append_assoc ts (term.Var n ∷ []) rest
-      ∙ ap (λ k. ts ++ term.Var k ∷ rest) (sym (number_found names (get_or xs i d).now n found))
-      ∙ sym (ap (λ l. ts ++ variable_terms names (texts_of l)) (drop_more xs i d within))
 
 behind_last : (xs : List ℕ) (x : ℕ) (f : Form) → behind (xs ++ x ∷ []) f ≡ behind xs (exists x f)
 behind_last [] x f = refl
@@ -50,8 +36,3 @@ module _ (xs ys : List (Bor (List ℕ))) (v : Bor (List ℕ)) (is : xs ≡ ys ++
 
   pub all_pop : (P : List ℕ → Type 0) → All P (texts_of xs) → All P (texts_of ys) × P v.now
   all_pop P all = All-pop P (texts_of xs) (texts_of ys) (Some v.now) up_to all
-
--- what an `Ok` tells, where there is one
-pub told_ok : {T E : Type 0} (P : Type 0) (r : Result T E) → is_err r ≡ false → OnOk r P → P
-told_ok P (Ok x) e p = p
-told_ok P (Err x) e p = absurd (cc e)

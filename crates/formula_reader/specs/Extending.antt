@@ -2,7 +2,8 @@
 use Rattle.std.specs.Prelude.{◌≡◌, List, [], ◌∷◌}
 use Rattle.formula_ast.specs.declared.file.File.{File}
 use Rattle.formula_ast.specs.declared.statement.Statement.{Statement}
-use Rattle.formula_reader.specs.Grammar.{Declaration, Equation, Written, symbols, solve, statement, Reads}
+use Rattle.formula_reader.specs.Grammar.{statement, Reads}
+use Rattle.formula_reader.specs.Written.{Declaration, Question, Written, symbols, solve}
 use Rattle.formula_reader.specs.Input.{Input, left_of}
 use Rattle.formula_reader.specs.Form.{Declares, IsStatement}
 
@@ -10,7 +11,7 @@ use Rattle.formula_reader.specs.Form.{Declares, IsStatement}
 pub data Extends : File → Written → File → Type 0 where
   by_symbols : {old new : File} {ds : List Declaration} → old.solves ≡ [] → Declares old.signature ds new.signature
       → new.preds ≡ old.preds → new.solves ≡ [] → Extends old (symbols ds) new
-  by_solve : {old new : File} {q : Equation} {s : Statement} → old.solves ≡ [] → IsStatement old.signature q s
+  by_solve : {old new : File} {q : Question} {s : Statement} → old.solves ≡ [] → IsStatement old.signature q s
       → new.signature ≡ old.signature → new.preds ≡ old.preds → new.solves ≡ s ∷ [] → Extends old (solve q) new
 
 -- a statement was read, and added to the file

@@ -1,7 +1,9 @@
 pub mod Extending
+pub mod Fitting
 pub mod Form
 pub mod Grammar
 pub mod Input
 pub mod Laws
 pub mod Reading
+pub mod Written
 pub mod WrittenAs

@@ -7,7 +7,8 @@ use Rattle.formula_reader.specs.declared.fault.Fault.{Fault}
 use Rattle.formula_reader.specs.declared.fault.FaultKind.TheVariants.{NotBuilt}
 use Rattle.formula_reader.specs.declared.fault.ReadError.{ReadError}
 use Rattle.formula_reader.specs.declared.fault.ReadError.TheVariants.{Refused, NoMemory}
-use Rattle.formula_reader.specs.Grammar.{Written, Begins}
+use Rattle.formula_reader.specs.Grammar.{Begins}
+use Rattle.formula_reader.specs.Written.{Written}
 use Rattle.formula_reader.specs.Form.{Makes}
 
 -- the first tokens of the text are these statements, which together make this file, and then come the others

@@ -1,28 +1,23 @@
 // Statements make a file.
-ghost use Rattle.std.specs.Prelude.{◌≡◌, ◌≢◌, ◌≤◌, ◌<◌, ℕ, List, [], ◌∷◌, ◌++◌, map, length, All, Contains, position, slice_get, IsTrue, ◌↔◌, IfOk, IfSome, IfNone, IfErr, MatchResult, MatchOption, OnOk, Some, None};
+ghost use Rattle.std.specs.Prelude.{◌≡◌, ◌≤◌, ◌<◌, ℕ, [], ◌∷◌, ◌++◌, map, length, All, Contains, position, slice_get, IfOk, IfSome, IfNone, IfErr, MatchResult, MatchOption, OnOk, Some, None};
 ghost use Rattle.std.specs.Str.{bytes_eq};
 ghost use Rattle.tree_model.specs.Signatures.{Signature as Entries};
 ghost use Rattle.tree_model.specs.declared.kind.Kind.TheVariants as kind;
-ghost use Rattle.formula_ast.specs.Forms.{form_of};
-ghost use Rattle.formula_ast.specs.Terms.{list_of};
-ghost use Rattle.formula_ast.specs.declared.statement.Statement.{Statement};
-ghost use Rattle.formula_reader.specs.Form.{value_of, symbol_entry, MayDeclare, Declares, first_occurrences, number_in, variable_terms, behind, IsStatement};
-ghost use Rattle.formula_reader.specs.WrittenAs.{declaration_of, equation_of, texts_of, written_of};
+ghost use Rattle.formula_ast.specs.Forms.{form_of, and};
+ghost use Rattle.formula_reader.specs.Form.{value_of, symbol_entry, MayDeclare, Declares, first_occurrences, number_in, behind};
+ghost use Rattle.formula_reader.specs.WrittenAs.{declaration_of, texts_of};
 
-use crate::written::{Declaration, Equation, Stop};
-use formula_ast::{Formula, Names, Statement, Term, Terms};
+use crate::written::{Declaration, Stop};
+use formula_ast::{Formula, Names};
 use signature::{DeclareError, Kind, Signature};
 use sqlite_items::Boxed;
 use std::alloc::Global;
-use tree_model::Symbol;
 
 const MOST_NAME_BYTES: usize = 64;
 
 const MOST_ARGUMENTS: usize = 8;
 
 const MOST_SYMBOLS: usize = 4096;
-
-const MOST_VARIABLES: usize = 1000;
 
 // The number of arguments that the digits say, where it is within the limit.
 fn arity_of(digits: &str) -> Option<usize>
@@ -72,7 +67,7 @@ pub(crate) fn declare_all(
 }
 
 // The number of a variable, if it is among the names.
-fn number_of(names: &Names, variable: &str) -> Option<usize>
+pub(crate) fn number_of(names: &Names, variable: &str) -> Option<usize>
     ensures { result ≡ position (λ name. bytes_eq name variable.now) names.now }
 {
     for i in 0..names.len() {
@@ -101,7 +96,7 @@ fn add_name(alloc: Global, names: &mut Names, name: &str) -> Result<(), Stop>
 }
 
 // The names, each once, by first occurrence, where each is within the limit.
-fn names_of(alloc: Global, variables: &[&str]) -> Result<Names, Stop>
+pub(crate) fn names_of(alloc: Global, variables: &[&str]) -> Result<Names, Stop>
     ensures names { IfOk result (λ names. names ≡ first_occurrences [] (texts_of variables.now)) }
     ensures short { OnOk result (All (λ x. length x ≤ 64) (texts_of variables.now)) }
     ensures outside { result ≡ Err Stop.NotBuilt → ¬ All (λ x. length x ≤ 64) (texts_of variables.now) }
@@ -117,7 +112,7 @@ fn names_of(alloc: Global, variables: &[&str]) -> Result<Names, Stop>
 }
 
 // The place of a symbol with so many arguments.
-fn place_of(signature: &Signature, name: &str, arity: usize) -> Option<usize>
+pub(crate) fn place_of(signature: &Signature, name: &str, arity: usize) -> Option<usize>
     ensures found { IfSome result (λ place. slice_get signature.now place ≡ Some (record { name = name.now; kind = kind.Symbol; arity = arity })) }
     ensures absent { IfNone result ((place : ℕ) → ¬ (slice_get signature.now place ≡ Some (record { name = name.now; kind = kind.Symbol; arity = arity }))) }
 {
@@ -129,26 +124,21 @@ fn place_of(signature: &Signature, name: &str, arity: usize) -> Option<usize>
     }
 }
 
-// The terms of variables that are among the names.
-fn terms_of(alloc: Global, names: &Names, variables: &[&str]) -> Result<Terms, Stop>
-    ensures terms { IfOk result (λ terms. list_of terms ≡ variable_terms names.now (texts_of variables.now)) }
-    ensures bound { OnOk result (All (λ y. Contains names.now y) (texts_of variables.now)) }
-    ensures outside { result ≡ Err Stop.NotBuilt → ¬ All (λ y. Contains names.now y) (texts_of variables.now) }
+// The second formula joined to the first.
+pub(crate) fn joined(alloc: Global, first: Formula, second: Formula) -> Result<Formula, Stop>
+    ensures { MatchResult result (λ formula. form_of formula ≡ and (form_of first) (form_of second)) (λ error. error ≡ Stop.NoMemory) }
 {
-    let mut terms = Terms::new(alloc);
-    for variable in variables {
-        let Some(number) = number_of(names, variable) else {
-            return Err(Stop::NotBuilt);
-        };
-        if terms.push(Term::Var(number)).is_err() {
-            return Err(Stop::NoMemory);
-        }
-    }
-    Ok(terms)
+    let Ok(first) = Boxed::new(alloc, first) else {
+        return Err(Stop::NoMemory);
+    };
+    let Ok(second) = Boxed::new(alloc, second) else {
+        return Err(Stop::NoMemory);
+    };
+    Ok(Formula::And(first, second))
 }
 
 // The formula behind quantifiers for the variables.
-fn quantified(
+pub(crate) fn quantified(
     alloc: Global,
     names: &Names,
     variables: &[&str],
@@ -170,29 +160,4 @@ fn quantified(
         }
     }
     Ok(body)
-}
-
-// The equation as a statement over the signature.
-pub(crate) fn statement_of(
-    alloc: Global,
-    signature: &Signature,
-    equation: &Equation<'_>,
-) -> Result<Statement, Stop>
-    ensures reads { IfOk result (λ s. IsStatement signature.now (equation_of equation.now) s) }
-    ensures outside { result ≡ Err Stop.NotBuilt → (s : Statement) → ¬ IsStatement signature.now (equation_of equation.now) s }
-{
-    if equation.variables.len() > MOST_VARIABLES {
-        return Err(Stop::NotBuilt);
-    }
-    let names = names_of(alloc, &equation.variables)?;
-    let Some(place) = place_of(signature, equation.name, equation.arguments.len()) else {
-        return Err(Stop::NotBuilt);
-    };
-    let Some(left) = number_of(&names, equation.left) else {
-        return Err(Stop::NotBuilt);
-    };
-    let arguments = terms_of(alloc, &names, &equation.arguments)?;
-    let body = Formula::Eq(Term::Var(left), Term::App(Symbol::Named(place), arguments));
-    let body = quantified(alloc, &names, &equation.variables, body)?;
-    Ok(Statement { names, body })
 }

@@ -6,7 +6,9 @@ mod building;
 mod fault;
 mod file_reader;
 mod laws;
+mod questions;
 mod reader;
+mod terms;
 #[cfg(test)]
 mod tests;
 mod written;

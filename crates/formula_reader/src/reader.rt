@@ -1,14 +1,14 @@
-// Reads statements, by recursive descent.
-ghost use Rattle.std.specs.Prelude.{◌≡◌, ◌≤◌, ◌<◌, ℕ, List, [], ◌∷◌, map, length, slice_range, MatchBool, OnErr, IfOk, IfErr, IfNone, IfSome, MatchOption};
+// Reads tokens and lists of words.
+ghost use Rattle.std.specs.Prelude.{◌≡◌, ◌≤◌, map, length, slice_range, MatchBool, OnErr, IfOk, IfErr, IfNone, IfSome, MatchOption};
 ghost use Rattle.std.specs.Str.{IsAscii};
-ghost use Rattle.formula_ast.specs.Tokens.{Stream, end};
+ghost use Rattle.formula_ast.specs.Tokens.{end};
 ghost use Rattle.formula_reader.specs.Grammar as g;
 ghost use Rattle.formula_reader.specs.Grammar.{Reads, NoneReads};
 ghost use Rattle.formula_reader.specs.Input.{left_of, StartsWith, Takes, TakesSome};
 ghost use Rattle.formula_reader.specs.Reading.{GoesOnAt};
-ghost use Rattle.formula_reader.specs.WrittenAs.{declaration_of, equation_of, texts_of, written_of};
+ghost use Rattle.formula_reader.specs.WrittenAs.{declaration_of, texts_of};
 
-use crate::written::{Declaration, Equation, Stop, Written};
+use crate::written::{Declaration, Stop};
 use formula_tokens::{Token, TokenKind, next_token};
 use std::alloc::Global;
 use std::marker::Model;
@@ -63,7 +63,7 @@ impl<'a> Reader<'a> {
     }
 
     // Takes the next token, if it is of this kind.
-    fn take(&mut self, kind: TokenKind) -> Option<&'a str>
+    pub(crate) fn take(&mut self, kind: TokenKind) -> Option<&'a str>
         ensures took { IfSome result (λ text. Takes kind text.now self.old self.new) }
         ensures other { IfNone result ((self.new ≡ self.old) × (¬ StartsWith kind (left_of self.old))) }
     {
@@ -78,7 +78,7 @@ impl<'a> Reader<'a> {
     }
 
     // Takes the next token, if it is of this kind, and says whether it was.
-    fn skip(&mut self, kind: TokenKind) -> bool
+    pub(crate) fn skip(&mut self, kind: TokenKind) -> bool
         ensures { MatchBool result (TakesSome kind self.old self.new) ((self.new ≡ self.old) × (¬ StartsWith kind (left_of self.old))) }
     {
         match self.take(kind) {
@@ -88,7 +88,7 @@ impl<'a> Reader<'a> {
     }
 
     // Takes the next token, which has to be of this kind.
-    fn expect(&mut self, kind: TokenKind) -> Result<&'a str, Stop>
+    pub(crate) fn expect(&mut self, kind: TokenKind) -> Result<&'a str, Stop>
         ensures took { IfOk result (λ text. Takes kind text.now self.old self.new) }
         ensures other { IfErr result (λ stop. (stop ≡ Stop.NotBuilt) × (¬ StartsWith kind (left_of self.old))) }
         ensures bytes { self.new.bytes ≡ self.old.bytes }
@@ -113,7 +113,7 @@ impl<'a> Reader<'a> {
     }
 
     // Declarations up to a full stop.
-    fn declarations(&mut self, alloc: Global) -> Result<Vec<Declaration<'a>>, Stop>
+    pub(crate) fn declarations(&mut self, alloc: Global) -> Result<Vec<Declaration<'a>>, Stop>
         ensures reads { IfOk result (λ ds.
             Reads self.old.bytes (g.declarations (map declaration_of ds.items)) (left_of self.old) (left_of self.new)) }
         ensures outside { result ≡ Err Stop.NotBuilt → NoneReads self.old.bytes g.declarations (left_of self.old) }
@@ -134,7 +134,7 @@ impl<'a> Reader<'a> {
     }
 
     // The variables of a quantifier up to a colon.
-    fn variables(&mut self, alloc: Global) -> Result<Vec<&'a str>, Stop>
+    pub(crate) fn variables(&mut self, alloc: Global) -> Result<Vec<&'a str>, Stop>
         ensures reads { IfOk result (λ xs.
             Reads self.old.bytes (g.variables (texts_of xs.items)) (left_of self.old) (left_of self.new)) }
         ensures outside { result ≡ Err Stop.NotBuilt → NoneReads self.old.bytes g.variables (left_of self.old) }
@@ -151,79 +151,5 @@ impl<'a> Reader<'a> {
                 return Ok(found);
             }
         }
-    }
-
-    // Arguments up to a closing parenthesis.
-    fn arguments(&mut self, alloc: Global) -> Result<Vec<&'a str>, Stop>
-        ensures reads { IfOk result (λ xs.
-            Reads self.old.bytes (g.arguments (texts_of xs.items)) (left_of self.old) (left_of self.new)) }
-        ensures outside { result ≡ Err Stop.NotBuilt → NoneReads self.old.bytes g.arguments (left_of self.old) }
-        ensures bytes { self.new.bytes ≡ self.old.bytes }
-    {
-        let mut found = Vec::new(alloc);
-        'list: loop {
-            let argument = self.expect(TokenKind::Variable)?;
-            match found.push(argument) {
-                Ok(()) => {}
-                Err(_) => return Err(Stop::NoMemory),
-            }
-            if self.skip(TokenKind::RightParen) {
-                return Ok(found);
-            }
-            self.expect(TokenKind::Comma)?;
-        }
-    }
-
-    // Nothing, or arguments in parentheses, up to a full stop.
-    fn ending(&mut self, alloc: Global) -> Result<Vec<&'a str>, Stop>
-        ensures reads { IfOk result (λ xs.
-            Reads self.old.bytes (g.ending (texts_of xs.items)) (left_of self.old) (left_of self.new)) }
-        ensures outside { result ≡ Err Stop.NotBuilt → NoneReads self.old.bytes g.ending (left_of self.old) }
-        ensures bytes { self.new.bytes ≡ self.old.bytes }
-    {
-        if self.skip(TokenKind::Stop) {
-            return Ok(Vec::new(alloc));
-        }
-        self.expect(TokenKind::LeftParen)?;
-        let found = self.arguments(alloc)?;
-        self.expect(TokenKind::Stop)?;
-        Ok(found)
-    }
-
-    // A quantifier, and behind it an equation up to a full stop.
-    fn equation(&mut self, alloc: Global) -> Result<Equation<'a>, Stop>
-        ensures reads { IfOk result (λ q.
-            Reads self.old.bytes (g.equation (equation_of q)) (left_of self.old) (left_of self.new)) }
-        ensures outside { result ≡ Err Stop.NotBuilt → NoneReads self.old.bytes g.equation (left_of self.old) }
-        ensures bytes { self.new.bytes ≡ self.old.bytes }
-    {
-        self.expect(TokenKind::Exists)?;
-        let variables = self.variables(alloc)?;
-        let left = self.expect(TokenKind::Variable)?;
-        self.expect(TokenKind::Equal)?;
-        let name = self.expect(TokenKind::Name)?;
-        let arguments = self.ending(alloc)?;
-        Ok(Equation {
-            variables,
-            left,
-            name,
-            arguments,
-        })
-    }
-
-    // The next statement.
-    pub(crate) fn statement(&mut self, alloc: Global) -> Result<Written<'a>, Stop>
-        ensures reads { IfOk result (λ written.
-            Reads self.old.bytes (g.statement (written_of written)) (left_of self.old) (left_of self.new)) }
-        ensures outside { result ≡ Err Stop.NotBuilt → NoneReads self.old.bytes g.statement (left_of self.old) }
-        ensures bytes { self.new.bytes ≡ self.old.bytes }
-    {
-        if self.skip(TokenKind::Symbol) {
-            let declarations = self.declarations(alloc)?;
-            return Ok(Written::Symbols(declarations));
-        }
-        self.expect(TokenKind::Solve)?;
-        let equation = self.equation(alloc)?;
-        Ok(Written::Solve(equation))
     }
 }

@@ -10,43 +10,93 @@ const NAME_OF_64: &str = "a123456789b123456789c123456789d123456789e123456789f123
 
 const VARIABLE_OF_64: &str = "A123456789B123456789C123456789D123456789E123456789F123456789_123";
 
-// A term with its symbol's place and its variables' numbers.
-fn write_term(shown: &mut String, term: &Term) -> Result<(), AllocError> {
+// A variable's number, or the place of a constant.
+fn write_leaf(shown: &mut String, term: &Term) -> Result<(), AllocError> {
     match term {
-        Term::Var(number) => write!(shown, " {number}"),
-        Term::App(Symbol::Named(place), arguments) => {
-            write!(shown, " #{place}")?;
-            for i in 0..arguments.len() {
-                match arguments.get(i) {
-                    Term::Var(number) => write!(shown, " {number}")?,
-                    Term::App(_, _) => write!(shown, " ?")?,
-                }
-            }
-            Ok(())
-        }
-        Term::App(Symbol::Further(_), _) => write!(shown, " ?"),
+        Term::Var(number) => write!(shown, "{number}"),
+        Term::App(Symbol::Named(place), _) => write!(shown, "#{place}"),
+        Term::App(Symbol::Further(_), _) => write!(shown, "?"),
     }
 }
 
-// An equation behind at most 1000 quantifiers.
-fn write_formula(shown: &mut String, formula: &Formula) -> Result<(), AllocError> {
+// A term whose arguments are variables and constants.
+fn write_flat(shown: &mut String, term: &Term) -> Result<(), AllocError> {
+    write_leaf(shown, term)?;
+    if let Term::App(_, arguments) = term {
+        for i in 0..arguments.len() {
+            write!(shown, "{}", if i == 0 { "(" } else { ", " })?;
+            write_leaf(shown, arguments.get(i))?;
+        }
+        write!(shown, "{}", if arguments.len() == 0 { "" } else { ")" })?;
+    }
+    Ok(())
+}
+
+// A term with its symbols' places and its variables' numbers, two nestings deep.
+fn write_term(shown: &mut String, term: &Term) -> Result<(), AllocError> {
+    write_leaf(shown, term)?;
+    if let Term::App(_, arguments) = term {
+        for i in 0..arguments.len() {
+            write!(shown, "{}", if i == 0 { "(" } else { ", " })?;
+            write_flat(shown, arguments.get(i))?;
+        }
+        write!(shown, "{}", if arguments.len() == 0 { "" } else { ")" })?;
+    }
+    Ok(())
+}
+
+fn write_equation(shown: &mut String, formula: &Formula) -> Result<(), AllocError> {
+    let Formula::Eq(left, right) = formula else {
+        return write!(shown, "?");
+    };
+    write_term(shown, left)?;
+    write!(shown, " = ")?;
+    write_term(shown, right)
+}
+
+// The formula so many joints further to the left.
+fn left_by<'a>(formula: &'a Formula, joints: usize) -> &'a Formula {
     let mut formula = formula;
-    for _ in 0..1001 {
-        match formula {
-            Formula::Exists(number, body) => {
-                write!(shown, " exists {number}")?;
-                formula = body.get();
-            }
-            Formula::Eq(left, right) => {
-                write!(shown, " :")?;
-                write_term(shown, left)?;
-                write!(shown, " =")?;
-                return write_term(shown, right);
-            }
-            _ => return write!(shown, " ?"),
+    for _ in 0..joints {
+        if let Formula::And(first, _) = formula {
+            formula = first.get();
+        }
+    }
+    formula
+}
+
+// Equations that are joined from the left, with the parentheses that show it.
+fn write_joined(shown: &mut String, formula: &Formula) -> Result<(), AllocError> {
+    let mut first = formula;
+    let mut joints: usize = 0;
+    for _ in 0..1000 {
+        if let Formula::And(more, _) = first {
+            first = more.get();
+            joints = joints.saturating_add(1);
+            write!(shown, "(")?;
+        }
+    }
+    write_equation(shown, first)?;
+    for i in 0..joints {
+        if let Formula::And(_, second) = left_by(formula, joints - 1 - i) {
+            write!(shown, " & ")?;
+            write_equation(shown, second.get())?;
+            write!(shown, ")")?;
         }
     }
     Ok(())
+}
+
+// Equations behind at most 1000 quantifiers.
+fn write_formula(shown: &mut String, formula: &Formula) -> Result<(), AllocError> {
+    let mut formula = formula;
+    for _ in 0..1000 {
+        if let Formula::Exists(number, body) = formula {
+            write!(shown, "exists {number} ")?;
+            formula = body.get();
+        }
+    }
+    write_joined(shown, formula)
 }
 
 // The names that a file declares, and each statement with its list of names.
@@ -64,7 +114,7 @@ fn shown(alloc: Global, file: &File) -> Result<String, AllocError> {
             let name = statement.names.get(number);
             write!(shown, "{name} ")?;
         }
-        write!(shown, "]")?;
+        write!(shown, "] ")?;
         write_formula(&mut shown, &statement.body)?;
     }
     Ok(shown)
@@ -90,27 +140,36 @@ fn files_of_the_form_are_read(rt: HostRuntime) -> Result<(), Fail> {
         ("symbol f/1.", "Symbol f/1. "),
         (
             "symbol f/1. solve exists X: X = f(X).",
-            "Symbol f/1. [X ] exists 0 : 0 = #0 0",
+            "Symbol f/1. [X ] exists 0 0 = #0(0)",
         ),
         (
-            "symbol a/0. solve exists X: X = a.",
-            "Symbol a/0. [X ] exists 0 : 0 = #0",
+            "symbol a/0. solve exists X: (X = a).",
+            "Symbol a/0. [X ] exists 0 0 = #0",
+        ),
+        ("solve exists X: X = X.", "[X ] exists 0 0 = 0"),
+        (
+            "symbol f/1, g/2.\nsymbol a/0, h/08. solve exists X Y: Y = g(X, a).",
+            "Symbol f/1. Symbol g/2. Symbol a/0. Symbol h/8. [X Y ] exists 0 exists 1 1 = #1(0, #2)",
         ),
         (
-            "symbol f/1, g/2.\nsymbol a/0, h/08. solve exists X Y: Y = g(X, Y).",
-            "Symbol f/1. Symbol g/2. Symbol a/0. Symbol h/8. [X Y ] exists 0 exists 1 : 1 = #1 0 1",
+            "symbol f/2. solve exists X X Y: f(Y, X) = X.",
+            "Symbol f/2. [X Y ] exists 0 exists 0 exists 1 #0(1, 0) = 0",
         ),
         (
-            "symbol f/2. solve exists X X Y: X = f(Y, X).",
-            "Symbol f/2. [X Y ] exists 0 exists 0 exists 1 : 0 = #0 1 0",
+            "symbol f/2, a/0. solve exists X Y: (X = f(X, Y) & f(X, a) = X).",
+            "Symbol f/2. Symbol a/0. [X Y ] exists 0 exists 1 (0 = #0(0, 1) & #0(0, #1) = 0)",
         ),
         (
-            "symbol f/1. solve exists Y X: X = f(Y).",
-            "Symbol f/1. [Y X ] exists 0 exists 1 : 1 = #0 0",
+            "symbol f/1, a/0, b/0. solve exists X Y: (f(X) = f(Y) & X = a & Y = b).",
+            "Symbol f/1. Symbol a/0. Symbol b/0. [X Y ] exists 0 exists 1 ((#0(0) = #0(1) & 0 = #1) & 1 = #2)",
         ),
         (
-            "%f\nsymbol%g\nf/1.solve exists X_1:X_1=f(X_1).% the end",
-            "Symbol f/1. [X_1 ] exists 0 : 0 = #0 0",
+            "symbol g/2, a/0. solve exists Y X: g(g(X, a), Y) = g(Y, g(Y, X)).",
+            "Symbol g/2. Symbol a/0. [Y X ] exists 0 exists 1 #0(#0(1, #1), 0) = #0(0, #0(0, 1))",
+        ),
+        (
+            "%f\nsymbol%g\nf/1.solve exists X_1:(X_1=f(X_1)&X_1=X_1).% the end",
+            "Symbol f/1. [X_1 ] exists 0 (0 = #0(0) & 0 = 0)",
         ),
         (
             "symbol f/000000000000000000000000000000000000001.",
@@ -152,13 +211,30 @@ fn other_files_are_refused_at_their_first_statement_outside_the_form(rt: HostRun
         ("symbol f/1. solve exists X: X = f().", 12),
         ("symbol f/1. solve exists X: X = f(X, X).", 12),
         ("symbol f/1. solve exists X: X = f(X X).", 12),
-        ("symbol f/1. solve exists X: X = f(f(X)).", 12),
-        ("symbol f/1. solve exists X: X = X.", 12),
+        ("symbol f/1. solve exists X: X = f(f).", 12),
+        ("symbol f/1. solve exists X: X = f(f(X) X).", 12),
+        ("symbol f/1. solve exists X: X = f(f(X).", 12),
+        ("symbol a/0. solve exists X: X = a(X).", 12),
+        ("symbol f/1. solve exists X: f(X)(X) = X.", 12),
+        ("symbol f/1. solve exists X: X(X) = X.", 12),
         ("symbol f/1. solve exists X: X = $1.", 12),
         ("symbol f/1. solve exists X: X != f(X).", 12),
-        ("symbol f/1. solve exists X: f(X) = X.", 12),
-        ("symbol f/1. solve exists X: (X = f(X)).", 12),
+        ("symbol f/1. solve exists X: ().", 12),
+        ("symbol f/1. solve exists X: ((X = X)).", 12),
+        ("symbol f/1. solve exists X: (X = X &).", 12),
+        ("symbol f/1. solve exists X: (X = X | X = X).", 12),
+        ("symbol f/1. solve exists X: X = X & X = X.", 12),
+        ("symbol f/1. solve exists X: (X = X) & X = X.", 12),
+        ("symbol f/1. solve exists X: (X = X & X = f).", 12),
+        ("symbol f/1. solve exists X: (X = X & f(Y) = X).", 12),
+        ("symbol f/1. solve exists X: exists Y: X = f(Y).", 12),
         ("symbol f/1. solve exists X: ~X = f(X).", 12),
+        ("symbol f/1. solve finite(X).", 12),
+        ("solve exists X: X = Y.", 0),
+        (
+            "symbol f/1. solve exists X: X = f(X). solve exists X: X = X.",
+            38,
+        ),
         ("symbol f/1. solve exists X: Y = f(X).", 12),
         ("symbol f/1. solve exists X: X = f(Y).", 12),
         ("symbol f/1. solve exists X, Y: X = f(Y).", 12),
@@ -225,15 +301,58 @@ fn there_are_at_most_4096_symbols(rt: HostRuntime) -> Result<(), Fail> {
 }
 
 #[test]
-fn a_quantifier_has_at_most_1000_variables(rt: HostRuntime) -> Result<(), Fail> {
-    let mut text = String::from_str(rt.alloc(), "symbol a/0. solve exists")?;
-    for i in 0..1000 {
-        write!(text, " X{i}")?;
+fn there_are_at_most_1000_variables_and_joints(rt: HostRuntime) -> Result<(), Fail> {
+    for (variables, joints, offset) in [
+        (1000, 0, None),
+        (1001, 0, Some(12)),
+        (1, 999, None),
+        (1, 1000, Some(12)),
+        (500, 500, None),
+        (500, 501, Some(12)),
+    ] {
+        let mut text = String::from_str(rt.alloc(), "symbol a/0. solve exists")?;
+        for i in 0..variables {
+            write!(text, " X{i}")?;
+        }
+        write!(text, ": (X0 = a")?;
+        for _ in 0..joints {
+            write!(text, " & a = X0")?;
+        }
+        write!(text, ").")?;
+        assert_eq!(rt;
+            refused_at(&rt, rt.alloc(), text.as_bytes()),
+            offset,
+            "{variables} {joints}"
+        );
     }
-    let most = format!(in rt.alloc(); "{text}: X999 = a.")?;
-    let more = format!(in rt.alloc(); "{text} X0: X999 = a.")?;
-    assert_eq!(rt; refused_at(&rt, rt.alloc(), most.as_bytes()), None);
-    assert_eq!(rt; refused_at(&rt, rt.alloc(), more.as_bytes()), Some(12));
+    Ok(())
+}
+
+#[test]
+fn at_most_200_nestings_stand_within_one_another(rt: HostRuntime) -> Result<(), Fail> {
+    for (begins, lists, ends, offset) in [
+        ("", 199, "", None),
+        ("", 200, "", Some(12)),
+        ("(", 198, ")", None),
+        ("(", 199, ")", Some(12)),
+        ("(f(f(X)) = f(X) & ", 198, ")", None),
+        ("(X = X & ", 199, ")", Some(12)),
+    ] {
+        let mut text = format!(in rt.alloc(); "symbol f/1. solve exists X: {begins}X = ")?;
+        for _ in 0..lists {
+            text.push_str("f(")?;
+        }
+        text.push('X')?;
+        for _ in 0..lists {
+            text.push(')')?;
+        }
+        write!(text, "{ends}.")?;
+        assert_eq!(rt;
+            refused_at(&rt, rt.alloc(), text.as_bytes()),
+            offset,
+            "{begins} {lists}"
+        );
+    }
     Ok(())
 }
 

@@ -1,7 +1,7 @@
 pub mod Answers
+pub mod Asked
 pub mod FileRead
 pub mod Laws
 pub mod ReadingSteps
-pub mod Solvable
 pub mod Verdicts
 pub mod WritingSteps

@@ -62,6 +62,54 @@ fn a_statement_is_answered(rt: HostRuntime) -> Result<(), Fail> {
     expect_ample(&rt, alloc, &mut source, Status::Done, ANSWER, b"")
 }
 
+// Runs on a file of these bytes, which is answered so.
+fn expect_answer(rt: &impl Abort, alloc: Global, bytes: &[u8], answer: &[u8]) -> Result<(), Fail> {
+    let mut source = source_of(alloc, bytes)?;
+    expect_ample(rt, alloc, &mut source, Status::Done, answer, b"")
+}
+
+#[test]
+fn a_conjunction_that_has_a_solution(rt: HostRuntime) -> Result<(), Fail> {
+    let loops = b"symbol f/2, a/0. solve exists X Y: (X = f(X, Y) & f(X, a) = X).";
+    expect_answer(&rt, rt.alloc(), loops, ANSWER)
+}
+
+#[test]
+fn a_conjunction_that_has_none(rt: HostRuntime) -> Result<(), Fail> {
+    let clash = b"symbol f/1, a/0, b/0. solve exists X Y: (f(X) = f(Y) & X = a & Y = b).";
+    expect_answer(&rt, rt.alloc(), clash, b"1 false\n")
+}
+
+#[test]
+fn a_loop_is_no_constant(rt: HostRuntime) -> Result<(), Fail> {
+    let clash = b"symbol f/1, a/0. solve exists X Y: (X = f(Y) & Y = f(X) & f(a) = X).";
+    expect_answer(&rt, rt.alloc(), clash, b"1 false\n")
+}
+
+// Runs on a file of these bytes, which is refused so.
+fn expect_refused(rt: &impl Abort, alloc: Global, bytes: &[u8], line: &[u8]) -> Result<(), Fail> {
+    let mut source = source_of(alloc, bytes)?;
+    expect_ample(rt, alloc, &mut source, Status::Refused, b"", line)
+}
+
+#[test]
+fn what_is_not_in_the_form_is_refused(rt: HostRuntime) -> Result<(), Fail> {
+    let alloc = rt.alloc();
+    expect_refused(
+        &rt,
+        alloc,
+        b"symbol f/1. solve finite(X).",
+        b"fault 12 notbuilt\n",
+    )?;
+    expect_refused(&rt, alloc, b"solve exists X: X = Y.", b"fault 0 notbuilt\n")
+}
+
+#[test]
+fn a_second_question_is_refused(rt: HostRuntime) -> Result<(), Fail> {
+    let two = b"symbol f/1. solve exists X: X = f(X). solve exists X: X = X.";
+    expect_refused(&rt, rt.alloc(), two, b"fault 38 notbuilt\n")
+}
+
 #[test]
 fn reads_and_writes_in_pieces(rt: HostRuntime) -> Result<(), Fail> {
     let alloc = rt.alloc();

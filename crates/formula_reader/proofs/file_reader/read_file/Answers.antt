@@ -1,7 +1,7 @@
 use Rattle.std.proofs.Common.{ℕ, List, length, refl, ◌∙◌, ap}
 use Rattle.formula_ast.specs.Tokens.{end}
 use Rattle.formula_reader.specs.Reading.IsFirstFault.{too_long, not_built}
-use Rattle.formula_reader.proofs.Equations.{in_text}
+use Rattle.formula_reader.proofs.InText.{in_text}
 use Rattle.formula_reader.proofs.Growing.{begun, stepped, read_whole, stops}
 use Rattle.formula_reader.proofs.Making.{makes_equations}
 use Rattle.formula_reader.proofs.Sizes.{statement_shorter}

@@ -2,7 +2,7 @@ use Rattle.std.proofs.Common.{refl, ap, arith}
 use Rattle.formula_reader.specs.Grammar.{declarations}
 use Rattle.formula_reader.specs.Input.{Input, left_of}
 use Rattle.formula_reader.proofs.Declarations.{declaration_shorter}
-use Rattle.formula_reader.proofs.Equations.{none_in_text}
+use Rattle.formula_reader.proofs.InText.{none_in_text}
 use Rattle.formula_reader.proofs.Shifts.{size, shorter, shift_of}
 use Rattle.formula_reader.proofs.Listing.{begun, none, declarations_push, no_declarations}
 use Rattle.formula_reader.proofs.ListSteps.{next_declaration, last_declaration, cut_declaration}

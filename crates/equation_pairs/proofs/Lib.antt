@@ -1,0 +1,10 @@
+pub mod Asking
+pub mod Beginning
+pub mod Collecting
+pub mod Growing
+pub mod Joining
+pub mod Measure
+pub mod Others
+pub mod Solution
+pub mod Steps
+pub mod Subterms
