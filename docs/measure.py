@@ -1,12 +1,11 @@
 #!/usr/bin/env python3
-"""Times the built program on chains and on merged rings of equations: python3 docs/measure.py PROGRAM"""
+"""Processor times of the built program on chains and merged rings of equations: python3 docs/measure.py PROGRAM"""
 import os
 import subprocess
 import sys
 import tempfile
-import time
 
-RUNS = 60
+RUNS = 200
 
 
 def chain(n):
@@ -21,33 +20,36 @@ def rings(n):
     return ['X%d' % i for i in range(a)] + ['Y%d' % i for i in range(b)], equations + ['X0 = Y0']
 
 
-def best(program, path, text):
-    """The least time of a run, in milliseconds, and what it writes."""
+def once(program, path):
+    """The processor's time of one run, in milliseconds, and what it writes."""
+    run = subprocess.Popen([program, path], stdout=subprocess.PIPE)
+    answer = run.stdout.read().decode().strip()
+    _, status, used = os.wait4(run.pid, 0)
+    assert status == 0, status
+    return (used.ru_utime + used.ru_stime) * 1000, answer
+
+
+def least(program, path, text):
+    """The least time of a run, and what each writes."""
     with open(path, 'w') as file:
         file.write(text)
-    least = None
-    for _ in range(RUNS):
-        start = time.perf_counter()
-        run = subprocess.run([program, path], capture_output=True, check=True)
-        taken = (time.perf_counter() - start) * 1000
-        least = taken if least is None else min(least, taken)
-    return least, run.stdout.decode().strip()
+    return min(once(program, path) for _ in range(RUNS))
 
 
 def main(program):
     with tempfile.TemporaryDirectory() as folder:
         path = os.path.join(folder, 'file.tree')
-        start = best(program, path, 'symbol f/1.')[0]
-        print('start of the program: %.2f ms' % start)
+        start = least(program, path, 'symbol f/1.')[0]
+        print('no equation: %.2f ms' % start)
         for form in (chain, rings):
             first = None
             for n in (10, 100, 480):
                 variables, equations = form(n)
                 text = 'symbol f/1. solve exists %s: (%s).' % (' '.join(variables), ' & '.join(equations))
-                taken, answer = best(program, path, text)
+                taken, answer = least(program, path, text)
                 work = taken - start
                 first = first or work
-                print('%s of %d: %s, %.2f ms behind the start, ratio %.1f' % (form.__name__, n, answer, work, work / first))
+                print('%s of %d: %s, %.3f ms more, ratio %.1f' % (form.__name__, n, answer, work, work / first))
 
 
 main(sys.argv[1])
