@@ -81,6 +81,12 @@ fn a_conjunction_that_has_none(rt: HostRuntime) -> Result<(), Fail> {
 }
 
 #[test]
+fn an_application_is_no_constant(rt: HostRuntime) -> Result<(), Fail> {
+    let clash = b"symbol f/1, a/0. solve exists X: f(X) = a.";
+    expect_answer(&rt, rt.alloc(), clash, b"1 false\n")
+}
+
+#[test]
 fn a_loop_is_no_constant(rt: HostRuntime) -> Result<(), Fail> {
     let clash = b"symbol f/1, a/0. solve exists X Y: (X = f(Y) & Y = f(X) & f(a) = X).";
     expect_answer(&rt, rt.alloc(), clash, b"1 false\n")
