@@ -1,11 +1,11 @@
--- What the calls of `Tree` answer.
+-- What the calls of `Tree` and `Assignment` answer.
 use Rattle.std.specs.Prelude.{◌≡◌, ℕ, ◌<◌, List, length, take, All, slice_index_or, Option, option_map}
 use Rattle.std.specs.Borrow.{Bor}
 use Rattle.tree_model.specs.declared.tree.Node.{Node}
 use Rattle.tree_model.specs.declared.tree.Symbol.{Symbol}
 use Rattle.tree_model.specs.declared.tree.TreeError.{TreeError}
 use Rattle.tree_model.specs.declared.tree.TreeError.TheVariants.{Child, Root}
-use Rattle.tree_model.specs.Graphs.{Graph, ChildrenBelow, IsInRange}
+use Rattle.tree_model.specs.Graphs.{Graph, Forest, ChildrenBelow, IsInRange, AreInRange}
 
 -- node i is the first with a child out of range
 pub record IsFirstStray (nodes : List Node) (i : ℕ) : Type 0 where
@@ -23,6 +23,17 @@ pub record IsKept (nodes : List Node) (root : ℕ) (tree : Graph) : Type 0 where
   pub nodes_kept : tree.nodes ≡ nodes
   pub root_kept : tree.root ≡ root
   pub in_range : IsInRange nodes root
+
+-- the nodes and the roots are refused for this fault
+abbrev pub AreRefused : List Node → List ℕ → TreeError → Type 0
+AreRefused nodes roots (Child i) = IsFirstStray nodes i
+AreRefused nodes roots Root = All (ChildrenBelow (length nodes)) nodes × ¬ All (λ root. root < length nodes) roots
+
+-- the assignment has these nodes and these roots, which are in range
+pub record AreKept (nodes : List Node) (roots : List ℕ) (assignment : Forest) : Type 0 where
+  pub nodes_kept : assignment.nodes ≡ nodes
+  pub roots_kept : assignment.roots ≡ roots
+  pub in_range : AreInRange nodes roots
 
 -- what a call that lends the symbol answers
 abbrev pub symbol_read : Option (Bor Symbol × ℕ) → Option (Symbol × ℕ)

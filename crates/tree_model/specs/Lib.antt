@@ -1,4 +1,6 @@
 pub mod Answers
+pub mod Bounding
+pub mod Comparing
 pub mod Graphs
 pub mod Laws
 pub mod Signatures

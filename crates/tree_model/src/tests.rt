@@ -68,6 +68,116 @@ fn a_cyclic_tree_is_read_along_paths(rt: HostRuntime) -> Result<(), Fail> {
     Ok(())
 }
 
+// The tree of these nodes, each a symbol with the places of its children, of which the first is the root.
+fn tree(alloc: Global, nodes: &[(Symbol, &[usize])]) -> Result<Tree, Fail> {
+    let mut made = Vec::new(alloc);
+    for (symbol, children) in nodes {
+        made.push(node(alloc, *symbol, children)?)?;
+    }
+    Ok(Tree::new(made, 0)?)
+}
+
+const F: Symbol = Symbol::Named(0);
+
+const A: Symbol = Symbol::Named(1);
+
+#[test]
+fn trees_of_other_nodes_may_be_the_same(rt: HostRuntime) -> Result<(), Fail> {
+    let alloc = rt.alloc();
+    let pairs: [(&[(Symbol, &[usize])], &[(Symbol, &[usize])], bool); 7] = [
+        (&[(F, &[0])], &[(F, &[1]), (F, &[0])], true),
+        (
+            &[(F, &[1, 1]), (A, &[])],
+            &[(F, &[2, 1]), (A, &[]), (A, &[])],
+            true,
+        ),
+        (
+            &[(F, &[1]), (F, &[2]), (A, &[])],
+            &[(F, &[1]), (A, &[])],
+            false,
+        ),
+        (&[(F, &[0])], &[(F, &[1]), (F, &[2]), (A, &[])], false),
+        (
+            &[(F, &[1, 2]), (A, &[]), (F, &[])],
+            &[(F, &[1, 1]), (A, &[])],
+            false,
+        ),
+        (
+            &[(Symbol::Further(0), &[])],
+            &[(Symbol::Further(0), &[0])],
+            false,
+        ),
+        (
+            &[(Symbol::Further(0), &[])],
+            &[(Symbol::Named(0), &[])],
+            false,
+        ),
+    ];
+    for (left, right, alike) in pairs {
+        let left = tree(alloc, left)?;
+        let right = tree(alloc, right)?;
+        assert_eq!(rt; same(alloc, &left, &right), Ok(alike), "{left:?} {right:?}");
+        assert_eq!(rt; same(alloc, &right, &left), Ok(alike), "{right:?} {left:?}");
+    }
+    Ok(())
+}
+
+#[test]
+fn a_loop_is_not_finite_and_a_shared_node_is(rt: HostRuntime) -> Result<(), Fail> {
+    let alloc = rt.alloc();
+    let trees: [(&[(Symbol, &[usize])], bool); 6] = [
+        (&[(F, &[0])], false),
+        (&[(A, &[])], true),
+        (&[(F, &[1, 2]), (F, &[2, 2]), (A, &[])], true),
+        (&[(F, &[1, 2]), (A, &[]), (F, &[1, 0])], false),
+        (&[(F, &[2]), (F, &[1]), (A, &[])], true),
+        (&[(F, &[1]), (F, &[1])], false),
+    ];
+    for (nodes, finite) in trees {
+        let tree = tree(alloc, nodes)?;
+        assert_eq!(rt; is_finite(alloc, &tree), Ok(finite), "{tree:?}");
+    }
+    Ok(())
+}
+
+#[test]
+fn an_assignment_gives_the_tree_of_each_variable(rt: HostRuntime) -> Result<(), Fail> {
+    let alloc = rt.alloc();
+    let leaf = Symbol::Further(0);
+    let mut nodes = Vec::new(alloc);
+    nodes.push(node(alloc, leaf, &[0])?)?;
+    nodes.push(node(alloc, A, &[])?)?;
+    let mut roots = Places::new(alloc);
+    roots.push(0)?;
+    roots.push(1)?;
+    let assignment = Assignment::new(nodes, roots)?;
+    assert_eq!(rt; assignment.nodes().len(), 2);
+    assert_eq!(rt; assignment.roots().len(), 2);
+    let looping = assignment.tree(alloc, 0)?;
+    assert_eq!(rt; looping.at(&[0, 0]), Some((&leaf, 1)));
+    let constant = assignment.tree(alloc, 1)?;
+    assert_eq!(rt; constant.at(&[]), Some((&A, 0)));
+    Ok(())
+}
+
+#[test]
+fn places_out_of_range_make_no_assignment(rt: HostRuntime) -> Result<(), Fail> {
+    let alloc = rt.alloc();
+    for (child, root, error) in [
+        (0, 1, Some(TreeError::Root)),
+        (1, 1, Some(TreeError::Child(0))),
+        (0, 0, None),
+    ] {
+        let mut nodes = Vec::new(alloc);
+        nodes.push(node(alloc, F, &[child])?)?;
+        let mut roots = Places::new(alloc);
+        roots.push(0)?;
+        roots.push(root)?;
+        assert_eq!(rt; Assignment::new(nodes, roots).err(), error);
+    }
+    Ok(())
+}
+
 #[test]
 fn laws_can_be_called(_rt: HostRuntime) {
     sameness_laws();

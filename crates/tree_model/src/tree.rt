@@ -1,5 +1,6 @@
-ghost use Rattle.std.specs.Prelude.{◌≡◌, List, ◌<◌, length, MatchResult, IsTrue, ◌↔◌, All};
-ghost use Rattle.tree_model.specs.Answers.{symbol_read, IsKept, IsRefused};
+ghost use Rattle.std.specs.Prelude.{◌≡◌, List, ◌<◌, length, MatchResult, MatchOption, IsTrue, ◌↔◌, All};
+ghost use Rattle.tree_model.specs.Answers.{symbol_read, IsKept, IsRefused, IsFirstStray};
+ghost use Rattle.tree_model.specs.Graphs.{ChildrenBelow, IsInRange};
 ghost use Rattle.tree_model.specs.Trees.{at};
 
 use crate::Places;
@@ -49,7 +50,7 @@ pub enum TreeError {
 }
 
 // Whether each place is below the limit.
-fn all_below(places: &Places, limit: usize) -> bool
+pub(crate) fn all_below(places: &Places, limit: usize) -> bool
     ensures { IsTrue result ↔ All (λ p. p < limit) places.now }
 {
     for i in 0..places.len() {
@@ -60,15 +61,25 @@ fn all_below(places: &Places, limit: usize) -> bool
     true
 }
 
+// The first node that has a child out of range.
+pub(crate) fn first_stray(nodes: &[Node]) -> Option<usize>
+    ensures { MatchOption result (All (ChildrenBelow (length nodes.now)) nodes.now) (λ i. IsFirstStray nodes.now i) }
+{
+    for i in 0..nodes.len() {
+        if !all_below(&nodes[i].children, nodes.len()) {
+            return Some(i);
+        }
+    }
+    None
+}
+
 impl Tree {
     /// Keeps the nodes and the root, or says which place is the first out of range. It takes no memory.
     pub fn new(nodes: Vec<Node>, root: usize) -> Result<Tree, TreeError>
         ensures { MatchResult result (λ tree. IsKept nodes.items root tree) (λ error. IsRefused nodes.items root error) }
     {
-        for i in 0..nodes.len() {
-            if !all_below(&nodes[i].children, nodes.len()) {
-                return Err(TreeError::Child(i));
-            }
+        if let Some(i) = first_stray(&nodes) {
+            return Err(TreeError::Child(i));
         }
         if root >= nodes.len() {
             return Err(TreeError::Root);
@@ -91,5 +102,28 @@ impl Tree {
         }
         let node = &self.nodes[place];
         Some((&node.symbol, node.children.len()))
+    }
+    // The tree of these nodes and this root, all places in range.
+    pub(crate) fn from_parts(nodes: Vec<Node>, root: usize) -> Tree
+        requires { IsInRange nodes.items root }
+        ensures nodes { result.nodes ≡ nodes.items }
+        ensures root { result.root ≡ root }
+    {
+        Tree { nodes, root }
+    }
+
+    // The nodes.
+    pub(crate) fn nodes(&self) -> &[Node]
+        ensures nodes { result.now ≡ self.now.nodes }
+        ensures in_range { IsInRange self.now.nodes self.now.root }
+    {
+        self.nodes.as_slice()
+    }
+
+    // The place of the root.
+    pub(crate) fn root(&self) -> usize
+        ensures { result ≡ self.now.root }
+    {
+        self.root
     }
 }
