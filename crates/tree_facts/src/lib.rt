@@ -4,7 +4,10 @@
 
 mod laws;
 
-pub use laws::{equation_laws, merging_laws, solution_laws, table_laws};
+pub use laws::{
+    Steps, equation_laws, finite_laws, graph_laws, index_laws, merging_laws, no_round_law,
+    renumbering_laws, solution_laws, table_laws, walk_laws,
+};
 
 #[cfg(test)]
 mod tests;
