@@ -1,7 +1,13 @@
 pub mod Equations
 pub mod Existence
+pub mod Finite
+pub mod Grounded
+pub mod Indexes
 pub mod Lookup
 pub mod Members
+pub mod NoRound
+pub mod Renumbering
 pub mod SideBySide
 pub mod Tables
 pub mod Uniqueness
+pub mod Walks

@@ -1,12 +1,12 @@
 -- What the equations of a system determine.
-use Rattle.std.proofs.Common.{ℕ, ◌≡◌, List, [], ◌∷◌, length, sym, ◌∙◌, subst, arith, Some, None, inl, inr}
+use Rattle.std.proofs.Common.{ℕ, ◌≡◌, ◌<◌, List, [], ◌∷◌, length, sym, ◌∙◌, subst, arith, Some, None, inl, inr}
 use Rattle.std.specs.Prelude.{Option, slice_index, Contains}
 use Rattle.tree_model.specs.declared.tree.Symbol.{Symbol}
 use Rattle.tree_model.specs.Signatures.{Signature, Alike}
 use Rattle.tree_model.specs.Trees.{at}
 use Rattle.tree_model.specs.Valuations.{Valuation}
 use Rattle.tree_facts.specs.Equations.{Equation, equals_variable, equals_term, variables_of, IsApplied, Solves, IsParameter}
-use Rattle.tree_facts.specs.Laws.{SolutionIsUnique}
+use Rattle.tree_facts.specs.Laws.{SolutionIsUnique, SolutionIsUniqueBelow}
 use Rattle.tree_facts.proofs.Lookup.{equation_of, IsEquationOf, found}
 use Rattle.tree_facts.proofs.Equations.{at_past, within_or_past}
 use Rattle.tree_facts.proofs.Members.{argument_occurs}
@@ -66,3 +66,7 @@ module _ {σ : Signature} (system : List Equation) (d e : Valuation σ) (d_solve
 pub solution_unique : SolutionIsUnique
 solution_unique σ system d e distinct d_solves e_solves parameters v =
     unique_within system d e d_solves e_solves distinct.direct (λ v. Unit {0}) (λ q inside v occurs. tt) (λ v own. parameters v) v tt
+
+pub solution_unique_below : SolutionIsUniqueBelow
+solution_unique_below σ n system d e distinct low d_solves e_solves parameters =
+    unique_within system d e d_solves e_solves distinct.direct (λ v. v < n) low parameters

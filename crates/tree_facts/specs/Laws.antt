@@ -94,3 +94,11 @@ abbrev pub SolutionIsUnique : Type 0
 SolutionIsUnique =
     (σ : Signature) (system : List Equation) (d e : Valuation σ) → HasDistinctLefts system → Solves d system → Solves e system
     → ((v : ℕ) → IsParameter system v → Alike (d v) (e v)) → (v : ℕ) → Alike (d v) (e v)
+
+-- two solutions that are alike on the parameters below n are alike on all variables below n, where the system has no others
+abbrev pub SolutionIsUniqueBelow : Type 0
+SolutionIsUniqueBelow =
+    (σ : Signature) (n : ℕ) (system : List Equation) (d e : Valuation σ) → HasDistinctLefts system
+    → ((q : Equation) → Contains system q → (v : ℕ) → Contains (variables_of q) v → v < n)
+    → Solves d system → Solves e system
+    → ((v : ℕ) → v < n → IsParameter system v → Alike (d v) (e v)) → (v : ℕ) → v < n → Alike (d v) (e v)

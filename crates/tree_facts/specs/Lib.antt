@@ -1,4 +1,10 @@
 pub mod Equations
+pub mod FiniteLaws
+pub mod Indexes
+pub mod IndexLaws
 pub mod Laws
+pub mod Renumbering
 pub mod SideBySide
 pub mod Tables
+pub mod WalkLaws
+pub mod Walks
