@@ -1,0 +1,17 @@
+ghost use Rattle.formula_grammar.specs.GrammarLaws.{OneFileReading, OneFormulaReading, FileFaultsStandRight, FormulaFaultsStandRight, FaultlessFilesRead, FaultlessFormulasRead};
+
+/// The first fault stands where the grammar alone says: an unfinished input at its end, a word that no whole text has
+/// there at this word, and every other fault behind a front of a whole text. A text without a fault is a whole text. A
+/// law: it does nothing when it runs.
+pub fn faults_stand_right()
+    ensures files { FileFaultsStandRight }
+    ensures formulas { FormulaFaultsStandRight }
+    ensures faultless_files { FaultlessFilesRead }
+    ensures faultless_formulas { FaultlessFormulasRead }
+{}
+
+/// A text reads in one way only. A law: it does nothing when it runs.
+pub fn at_most_one_reading()
+    ensures files { OneFileReading }
+    ensures formulas { OneFormulaReading }
+{}
