@@ -38,9 +38,9 @@ module _ (IsWhole : List Word → Type 0) where
         → StandsRight bytes tokens (record { offset = at; kind = Byte })
     at_end : {at : ℕ} (before : List Word) → BeginsWith bytes tokens before (end at) → CanBegin before → ¬ IsWhole before
         → StandsRight bytes tokens (record { offset = at; kind = Ended })
-    at_word : (t : Token) {more : Stream} (before : List Word) → BeginsWith bytes tokens before (token t more) → CanBegin before
+    at_word : (t : Token) (more : Stream) (before : List Word) → BeginsWith bytes tokens before (token t more) → CanBegin before
         → ¬ CanBegin (before ++ word_of bytes t ∷ []) → StandsRight bytes tokens (record { offset = t.from; kind = Syntax })
-    of_word : (t : Token) {more : Stream} {kind : FaultKind} (before : List Word) → BeginsWith bytes tokens before (token t more)
+    of_word : (t : Token) (more : Stream) {kind : FaultKind} (before : List Word) → BeginsWith bytes tokens before (token t more)
         → CanBegin (before ++ word_of bytes t ∷ []) → ¬ (kind ≡ Syntax) → ¬ (kind ≡ Ended) → ¬ (kind ≡ Byte)
         → StandsRight bytes tokens (record { offset = t.from; kind = kind })
     of_end : {at : ℕ} {kind : FaultKind} (before : List Word) → BeginsWith bytes tokens before (end at) → IsWhole before
