@@ -5,3 +5,7 @@ pub mod Checks
 pub mod FirstFault
 pub mod Begins
 pub mod GrammarLaws
+pub mod Lawful
+pub mod Meaning
+pub mod Reading
+pub mod ReadingLaws
