@@ -7,7 +7,7 @@ use Rattle.formula_grammar.specs.Grammar as g
 use Rattle.formula_grammar.specs.Grammar.{Part}
 use Rattle.formula_grammar.specs.Machine.{Place, Head, Symbol, mark, file, declarations, more_parameters, defined, predicate_end, formula, iff_tail, implication, imp_tail, disjunction, or_tail, conjunction, and_tail, unary, more_quantified, name_tail, comparison, term, arguments, more_arguments, Stack, ends_predicate}
 use Rattle.formula_grammar.proofs.Starts.{can_start}
-use Rattle.formula_grammar.proofs.Checked.{Later, then, checks_term, checks_arguments, checks_more, checks_bound, bind_all, checks_formula, checks_joined, checks_implied, checks_equated, checks_right, checks_tail, checks_declarations, checks_parameters, checks_body, checks_file}
+use Rattle.formula_grammar.proofs.Checked.{Later, in_role, checks_term, checks_arguments, checks_more, checks_bound, bind_all, checks_formula, checks_joined, checks_implied, checks_equated, checks_right, checks_tail, checks_declarations, checks_parameters, checks_body, checks_file}
 
 -- Behind a part may not come what could go on in it.
 abbrev pub BehindTerm : List Part → Type 0
@@ -52,7 +52,7 @@ pub data Awaits : Stack → List Part → Later → Type 0 where
   awaits_define : {name : Text} {xs : List Text} {f : WrittenFormula} {s : Stack} {p : List Part} {later : Later}
       → Awaits s p later → Awaits (defined name xs ∷ s) (g.mark k.Define ∷ g.formula f ∷ g.mark k.Stop ∷ p) (checks_body name f later xs)
   awaits_end : {name : Text} {n : ℕ} {s : Stack} {p : List Part} {later : Later}
-      → Awaits s p later → Awaits (predicate_end name n ∷ s) (g.mark k.Stop ∷ p) (then (ends_predicate name n) later)
+      → Awaits s p later → Awaits (predicate_end name n ∷ s) (g.mark k.Stop ∷ p) (in_role (ends_predicate name n) later)
   awaits_formula : {c : Place} {f : WrittenFormula} {s : Stack} {p : List Part} {later : Later}
       → BehindFormula p → Awaits s p later → Awaits (formula c ∷ s) (g.formula f ∷ p) (checks_formula c f later)
   awaits_iff_tail : {c : Place} {f : Option WrittenFormula} {s : Stack} {p : List Part} {later : Later}

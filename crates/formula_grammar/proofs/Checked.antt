@@ -10,35 +10,35 @@ abbrev pub Later : Type 0
 Later = Environment → Bool
 
 -- a word with this role
-abbrev pub then : Role → Later → Later
-then r k E = is_fine E r && k (update E r)
+abbrev pub in_role : Role → Later → Later
+in_role r k E = is_fine E r && k (update E r)
 
 -- a term; its arguments; and those behind so many
 abbrev mutual
   pub checks_term : Place → WrittenTerm → Later → Later
-  checks_term c (variable x) k = then (stands x c) k
-  checks_term c (named f ts) k = then (heads_term f) (checks_arguments (of_name f) c ts k)
-  checks_term c (further i ts) k = then (is_further i) (checks_arguments of_further c ts k)
+  checks_term c (variable x) k = in_role (stands x c) k
+  checks_term c (named f ts) k = in_role (heads_term f) (checks_arguments (of_name f) c ts k)
+  checks_term c (further i ts) k = in_role (is_further i) (checks_arguments of_further c ts k)
 
   pub checks_arguments : Head → Place → WrittenTerms → Later → Later
-  checks_arguments h c no_terms k = then (no_arguments h) k
+  checks_arguments h c no_terms k = in_role (no_arguments h) k
   checks_arguments h c (one_more t ts) k =
-      then (opens_arguments h) (then (opens (suc c.depth)) (checks_term (deeper c) t (checks_more h 1 (deeper c) ts k)))
+      in_role (opens_arguments h) (in_role (opens (suc c.depth)) (checks_term (deeper c) t (checks_more h 1 (deeper c) ts k)))
 
   pub checks_more : Head → ℕ → Place → WrittenTerms → Later → Later
-  checks_more h n c no_terms k = then (closes h n) k
-  checks_more h n c (one_more t ts) k = then (separates h n) (checks_term c t (checks_more h (suc n) c ts k))
+  checks_more h n c no_terms k = in_role (closes h n) k
+  checks_more h n c (one_more t ts) k = in_role (separates h n) (checks_term c t (checks_more h (suc n) c ts k))
 
 -- the left side of a comparison
 abbrev pub checks_left : Place → WrittenTerm → Later → Later
-checks_left c (variable x) k = then (stands x c) k
-checks_left c (named f ts) k = then (begins_atom f) (checks_arguments (of_name f) c ts (then (compares f) k))
-checks_left c (further i ts) k = then (is_further i) (checks_arguments of_further c ts k)
+checks_left c (variable x) k = in_role (stands x c) k
+checks_left c (named f ts) k = in_role (begins_atom f) (checks_arguments (of_name f) c ts (in_role (compares f) k))
+checks_left c (further i ts) k = in_role (is_further i) (checks_arguments of_further c ts k)
 
 -- the variables of a quantifier
 abbrev pub checks_bound : List Text → Later → Later
 checks_bound [] k = k
-checks_bound (x ∷ xs) k = then (binds x) (checks_bound xs k)
+checks_bound (x ∷ xs) k = in_role (binds x) (checks_bound xs k)
 
 -- the place behind them
 abbrev pub bind_all : List Text → Place → Place
@@ -48,30 +48,30 @@ bind_all (x ∷ xs) c = bind_all xs (binding x c)
 abbrev pub checks_formula : Place → WrittenFormula → Later → Later
 checks_formula c truth k = k
 checks_formula c falsity k = k
-checks_formula c (finite t) k = then (opens (suc c.depth)) (checks_term (deeper c) t k)
-checks_formula c (win p n t) k = then (opens (suc c.depth)) (then (plays p) (then (counts n) (checks_term (deeper c) t k)))
+checks_formula c (finite t) k = in_role (opens (suc c.depth)) (checks_term (deeper c) t k)
+checks_formula c (win p n t) k = in_role (opens (suc c.depth)) (in_role (plays p) (in_role (counts n) (checks_term (deeper c) t k)))
 checks_formula c (equal t u) k = checks_left c t (checks_term c u k)
 checks_formula c (differ t u) k = checks_left c t (checks_term c u k)
-checks_formula c (call p ts) k = then (begins_atom p) (checks_arguments (of_name p) c ts (then (stands_alone p) k))
-checks_formula c (no f) k = then (opens (suc c.depth)) (checks_formula (deeper c) f k)
+checks_formula c (call p ts) k = in_role (begins_atom p) (checks_arguments (of_name p) c ts (in_role (stands_alone p) k))
+checks_formula c (no f) k = in_role (opens (suc c.depth)) (checks_formula (deeper c) f k)
 checks_formula c (exists xs f) k =
-    then (opens (suc c.depth)) (checks_bound xs (checks_formula (bind_all xs (deeper c)) f k))
+    in_role (opens (suc c.depth)) (checks_bound xs (checks_formula (bind_all xs (deeper c)) f k))
 checks_formula c (forall xs f) k =
-    then (opens (suc c.depth)) (checks_bound xs (checks_formula (bind_all xs (deeper c)) f k))
-checks_formula c (group f) k = then (opens (suc c.depth)) (checks_formula (deeper c) f k)
-checks_formula c (and f g) k = checks_formula c f (then joins (checks_formula c g k))
-checks_formula c (or f g) k = checks_formula c f (then joins (checks_formula c g k))
-checks_formula c (imp f g) k = checks_formula c f (then (opens (suc c.depth)) (checks_formula (deeper c) g k))
+    in_role (opens (suc c.depth)) (checks_bound xs (checks_formula (bind_all xs (deeper c)) f k))
+checks_formula c (group f) k = in_role (opens (suc c.depth)) (checks_formula (deeper c) f k)
+checks_formula c (and f g) k = checks_formula c f (in_role joins (checks_formula c g k))
+checks_formula c (or f g) k = checks_formula c f (in_role joins (checks_formula c g k))
+checks_formula c (imp f g) k = checks_formula c f (in_role (opens (suc c.depth)) (checks_formula (deeper c) g k))
 checks_formula c (iff f g) k = checks_formula c f (checks_formula c g k)
 
 -- further members of a list behind `&` or `|`
 abbrev pub checks_joined : Place → List WrittenFormula → Later → Later
 checks_joined c [] k = k
-checks_joined c (f ∷ fs) k = then joins (checks_formula c f (checks_joined c fs k))
+checks_joined c (f ∷ fs) k = in_role joins (checks_formula c f (checks_joined c fs k))
 
 abbrev pub checks_implied : Place → Option WrittenFormula → Later → Later
 checks_implied c None k = k
-checks_implied c (Some f) k = then (opens (suc c.depth)) (checks_formula (deeper c) f k)
+checks_implied c (Some f) k = in_role (opens (suc c.depth)) (checks_formula (deeper c) f k)
 
 abbrev pub checks_equated : Place → Option WrittenFormula → Later → Later
 checks_equated c None k = k
@@ -82,27 +82,27 @@ checks_right c (equals t) k = checks_term c t k
 checks_right c (differs t) k = checks_term c t k
 
 abbrev pub checks_tail : Text → Place → Option Comparison → Later → Later
-checks_tail p c None k = then (stands_alone p) k
-checks_tail p c (Some r) k = then (compares p) (checks_right c r k)
+checks_tail p c None k = in_role (stands_alone p) k
+checks_tail p c (Some r) k = in_role (compares p) (checks_right c r k)
 
 -- ---- statements
 
 abbrev pub checks_declarations : List Declaration → Later → Later
 checks_declarations [] k = k
-checks_declarations (d ∷ ds) k = then (declares d.name) (then (has_arity d.name d.digits) (checks_declarations ds k))
+checks_declarations (d ∷ ds) k = in_role (declares d.name) (in_role (has_arity d.name d.digits) (checks_declarations ds k))
 
 -- the other parameters of a predicate, and what is checked behind them all
 abbrev pub checks_parameters : List Text → List Text → (List Text → Later) → Later
 checks_parameters before [] k = k before
-checks_parameters before (x ∷ xs) k = then (has_parameter x before) (checks_parameters (before ++ x ∷ []) xs k)
+checks_parameters before (x ∷ xs) k = in_role (has_parameter x before) (checks_parameters (before ++ x ∷ []) xs k)
 
 -- the body of a predicate with these parameters
 abbrev pub checks_body : Text → WrittenFormula → Later → List Text → Later
-checks_body p f k xs = checks_formula (closed_place xs) f (then (ends_predicate p (length xs)) k)
+checks_body p f k xs = checks_formula (closed_place xs) f (in_role (ends_predicate p (length xs)) k)
 
 abbrev pub checks_file : List WrittenStatement → Later → Later
 checks_file [] k = k
 checks_file (symbols ds ∷ more) k = checks_declarations ds (checks_file more k)
 checks_file (predicate p xs f ∷ more) k =
-    then begins (then (declares_predicate p) (checks_parameters [] xs (checks_body p f (checks_file more k))))
-checks_file (solve f ∷ more) k = then begins (checks_formula open_place f (checks_file more k))
+    in_role begins (in_role (declares_predicate p) (checks_parameters [] xs (checks_body p f (checks_file more k))))
+checks_file (solve f ∷ more) k = in_role begins (checks_formula open_place f (checks_file more k))

@@ -4,3 +4,6 @@ pub mod Checked
 pub mod Awaiting
 pub mod Moves
 pub mod Walks
+pub mod Roles
+pub mod TermChecks
+pub mod FormulaChecks

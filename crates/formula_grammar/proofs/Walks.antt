@@ -9,7 +9,7 @@ use Rattle.formula_grammar.specs.Machine.{Place, deeper, binding, of_name, of_fu
 use Rattle.formula_grammar.specs.Checks.{Environment, update}
 use Rattle.formula_grammar.proofs.Starts.{not_next}
 use Rattle.formula_grammar.proofs.Passing.{is_fine, passes}
-use Rattle.formula_grammar.proofs.Checked.{Later, then, checks_term, checks_arguments, checks_formula, checks_joined, checks_implied, checks_equated, checks_right, checks_tail}
+use Rattle.formula_grammar.proofs.Checked.{Later, in_role, checks_term, checks_arguments, checks_formula, checks_joined, checks_implied, checks_equated, checks_right, checks_tail}
 use Rattle.formula_grammar.proofs.Awaiting.{Awaits, nothing, awaits_mark, awaits_file, awaits_declarations, awaits_parameters, awaits_close, awaits_define, awaits_end, awaits_formula, awaits_iff_tail, awaits_implication, awaits_imp_tail, awaits_disjunction, awaits_or_tail, awaits_conjunction, awaits_and_tail, awaits_unary, awaits_quantified, awaits_colon, awaits_name_tail, awaits_comparison, awaits_term, awaits_arguments, awaits_more}
 use Rattle.formula_grammar.proofs.Moves as m
 
@@ -44,18 +44,18 @@ conjoined_checks : (c : Place) (f h : WrittenFormula) (gs : List WrittenFormula)
 conjoined_checks c f h gs later E e = rw e (all_of_checks c f gs later E)
 
 named_checks : (c : Place) (p : Text) (ts : WrittenTerms) (r : Option Comparison) (h : WrittenFormula) (later : Later) (E : Environment)
-    → h ≡ named_atom p ts r → checks_formula c h later E ≡ then (begins_atom p) (checks_arguments (of_name p) c ts (checks_tail p c r later)) E
+    → h ≡ named_atom p ts r → checks_formula c h later E ≡ in_role (begins_atom p) (checks_arguments (of_name p) c ts (checks_tail p c r later)) E
 named_checks c p ts None h later E e = rw e refl
 named_checks c p ts (Some (equals u)) h later E e = rw e refl
 named_checks c p ts (Some (differs u)) h later E e = rw e refl
 
 variable_checks : (c : Place) (x : Text) (r : Comparison) (h : WrittenFormula) (later : Later) (E : Environment)
-    → h ≡ compared (variable x) r → checks_formula c h later E ≡ then (stands x c) (checks_right c r later) E
+    → h ≡ compared (variable x) r → checks_formula c h later E ≡ in_role (stands x c) (checks_right c r later) E
 variable_checks c x (equals u) h later E e = rw e refl
 variable_checks c x (differs u) h later E e = rw e refl
 
 further_checks : (c : Place) (i : Text) (ts : WrittenTerms) (r : Comparison) (h : WrittenFormula) (later : Later) (E : Environment)
-    → h ≡ compared (further i ts) r → checks_formula c h later E ≡ then (is_further i) (checks_arguments of_further c ts (checks_right c r later)) E
+    → h ≡ compared (further i ts) r → checks_formula c h later E ≡ in_role (is_further i) (checks_arguments of_further c ts (checks_right c r later)) E
 further_checks c i ts (equals u) h later E e = rw e refl
 further_checks c i ts (differs u) h later E e = rw e refl
 

@@ -1,4 +1,5 @@
 use Rattle.formula_grammar.proofs.Walks.{walk}
+use Rattle.formula_grammar.proofs.FormulaChecks.{formula_granted}
 use Rattle.formula_grammar.proofs.laws.lawful_is_faultless.Goals as goal
 
 pub returns-clause-files : goal.returns-clause-files
