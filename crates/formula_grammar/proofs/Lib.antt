@@ -7,3 +7,6 @@ pub mod Walks
 pub mod Roles
 pub mod TermChecks
 pub mod FormulaChecks
+pub mod ParameterChecks
+pub mod StatementChecks
+pub mod Faultless
