@@ -5,3 +5,7 @@ pub mod Ends
 pub mod WellKept
 pub mod Mild
 pub mod Standing
+pub mod UniqueWords
+pub mod UniqueParts
+pub mod UniqueTerms
+pub mod Unique

@@ -127,10 +127,10 @@ is_formula c ws f = formula_of c ws f.parts f.fits f.derives
 of_formula : (c : Place) (ws : List Word) → IsSomeFormula ws → Follows (formula c ∷ []) ws
 of_formula c ws f = follows (fits_formula nothing) f.1
 
-file_well : Well (file ∷ [])
+pub file_well : Well (file ∷ [])
 file_well = (record { symbols = λ text. refl; predicates = λ text. refl; formulas = λ text. refl }, tt)
 
-formula_well : (c : Place) → Well (formula c ∷ [])
+pub formula_well : (c : Place) → Well (formula c ∷ [])
 formula_well c = (
     record {
       inner = record {
