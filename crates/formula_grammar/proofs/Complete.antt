@@ -1,5 +1,5 @@
 -- What the grammar derives, the machine takes.
-use Rattle.std.proofs.Common.{◌≡◌, ℕ, suc, Bool, true, false, List, [], ◌∷◌, ◌++◌, length, refl, sym, ◌∙◌, ap, subst, if◌then◌else◌, rules}
+use Rattle.std.proofs.Common.{◌≡◌, Bool, true, false, List, ◌∷◌, refl, sym, ◌∙◌, ap, subst, rules}
 use denote.Enum.Bare.{same_true, true_same}
 use Rattle.formula_ast.specs.contracts.token.TokenKind.{the_type}
 use Rattle.formula_ast.specs.declared.token.TokenKind.{TokenKind}
@@ -7,8 +7,8 @@ use Rattle.formula_ast.specs.declared.token.TokenKind.TheVariants as k
 use Rattle.formula_ast.specs.Tokens.{Word}
 use Rattle.formula_grammar.specs.Grammar as g
 use Rattle.formula_grammar.specs.Grammar.{Part, Derives}
-use Rattle.formula_grammar.specs.Machine.{Place, deeper, binding, Head, of_name, of_further, Symbol, mark, file, declared_name, arity, declarations, predicate_name, header, parameter, more_parameters, defined, predicate_end, formula, iff_tail, implication, imp_tail, disjunction, or_tail, conjunction, and_tail, unary, quantified, more_quantified, opening, game, moves, name_tail, comparison, term, arguments, more_arguments, Stack, Role, Move, refused, goes, adds, step, same}
-use Rattle.formula_grammar.proofs.Fits.{Fits, nothing, fits_mark, fits_file, fits_declared_name, fits_arity, fits_declarations, fits_predicate_name, fits_header, fits_parameter, fits_more_parameters, fits_defined, fits_predicate_end, fits_formula, fits_iff_tail, fits_implication, fits_imp_tail, fits_disjunction, fits_or_tail, fits_conjunction, fits_and_tail, fits_unary, fits_quantified, fits_more_quantified, fits_opening, fits_game, fits_moves, fits_name_tail, fits_comparison, fits_term, fits_arguments, fits_more_arguments, Follows, follows, Refuses, Well, behind_iff_tail, behind_imp_tail, behind_or_tail, behind_and_tail}
+use Rattle.formula_grammar.specs.Machine.{mark, file, declared_name, arity, declarations, predicate_name, header, parameter, more_parameters, defined, predicate_end, iff_tail, imp_tail, or_tail, and_tail, unary, quantified, more_quantified, opening, game, moves, name_tail, comparison, term, arguments, more_arguments, Stack, Role, Move, refused, goes, adds, step, same}
+use Rattle.formula_grammar.proofs.Fits.{Fits, fits_mark, fits_file, fits_declared_name, fits_arity, fits_declarations, fits_predicate_name, fits_header, fits_parameter, fits_more_parameters, fits_defined, fits_predicate_end, fits_formula, fits_iff_tail, fits_implication, fits_imp_tail, fits_disjunction, fits_or_tail, fits_conjunction, fits_and_tail, fits_unary, fits_quantified, fits_more_quantified, fits_opening, fits_game, fits_moves, fits_name_tail, fits_comparison, fits_term, fits_arguments, fits_more_arguments, Follows, follows, Refuses, Well, behind_iff_tail, behind_imp_tail, behind_or_tail, behind_and_tail}
 
 abbrev pub Goes : List Word → Move → Type 0
 Goes ws refused = ⊥
@@ -24,7 +24,8 @@ abbrev pub of_kind : TokenKind → Word → Word
 of_kind kind w = record { kind = kind; text = w.text }
 
 -- a word that may not come does not
-not_it : (ws : List Word) (s : Stack) (w : Word) (kind : TokenKind) (b : Bool) → same w.kind kind ≡ b → Refuses s kind → Goes ws (step s w) → b ≡ false
+not_it : (ws : List Word) (s : Stack) (w : Word) (kind : TokenKind) (b : Bool)
+    → same w.kind kind ≡ b → Refuses s kind → Goes ws (step s w) → b ≡ false
 not_it ws s w kind true e r h =
     absurd (subst (λ m. Goes ws m) (ap (λ i. step s (of_kind i w)) (same_is w.kind kind e) ∙ r w.text) h)
 not_it ws s w kind false e r h = refl

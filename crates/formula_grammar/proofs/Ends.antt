@@ -1,12 +1,12 @@
 -- Where the input may end, and that every list of symbols stands for some words.
-use Rattle.std.proofs.Common.{◌≡◌, ℕ, List, [], ◌∷◌, Option, Some, None, refl}
+use Rattle.std.proofs.Common.{List, [], ◌∷◌, Option, Some, None, refl}
 use Rattle.formula_ast.specs.declared.token.TokenKind.{TokenKind}
 use Rattle.formula_ast.specs.declared.token.TokenKind.TheVariants as k
 use Rattle.formula_ast.specs.Tokens.{Word}
 use Rattle.formula_grammar.specs.Written.{Text}
 use Rattle.formula_grammar.specs.Grammar as g
 use Rattle.formula_grammar.specs.Grammar.{Part, Derives}
-use Rattle.formula_grammar.specs.Machine.{Place, Head, Symbol, mark, file, declared_name, arity, declarations, predicate_name, header, parameter, more_parameters, defined, predicate_end, formula, iff_tail, implication, imp_tail, disjunction, or_tail, conjunction, and_tail, unary, quantified, more_quantified, opening, game, moves, name_tail, comparison, term, arguments, more_arguments, Stack, Role, adds_end, at_end}
+use Rattle.formula_grammar.specs.Machine.{Place, mark, file, declared_name, arity, declarations, predicate_name, header, parameter, more_parameters, defined, predicate_end, formula, iff_tail, implication, imp_tail, disjunction, or_tail, conjunction, and_tail, unary, quantified, more_quantified, opening, game, moves, name_tail, comparison, term, arguments, more_arguments, Stack, Role, adds_end, at_end}
 use Rattle.formula_grammar.proofs.Fits.{Fits, nothing, fits_mark, fits_file, fits_declared_name, fits_arity, fits_declarations, fits_predicate_name, fits_header, fits_parameter, fits_more_parameters, fits_defined, fits_predicate_end, fits_formula, fits_iff_tail, fits_implication, fits_imp_tail, fits_disjunction, fits_or_tail, fits_conjunction, fits_and_tail, fits_unary, fits_quantified, fits_more_quantified, fits_opening, fits_game, fits_moves, fits_name_tail, fits_comparison, fits_term, fits_arguments, fits_more_arguments, Follows, follows}
 use Rattle.formula_grammar.proofs.Sound.{conjunction_follows, disjunction_follows, implication_follows, formula_follows}
 
@@ -164,10 +164,10 @@ formula_completes c s a =
 -- `:= true .`
 defined_completes : (n : Text) (xs : List Text) (s : Stack) → Completes s → Completes (defined n xs ∷ s)
 defined_completes n xs s a = (
-    some_word k.Define ∷ some_word k.«True» ∷ some_word k.Stop ∷ a.0,
-    follows (fits_defined a.1.fits) (g.is_mark refl (g.is_formula {g = None} refl (g.is_implication {g = None} refl (g.is_disjunction {gs = []} refl
-        (g.is_conjunction {gs = []} refl (g.is_true (g.is_mark refl (g.no_and (g.no_or (g.no_imp (g.no_iff (g.is_mark refl a.1.derives)))))))))))),
-  )
+  some_word k.Define ∷ some_word k.«True» ∷ some_word k.Stop ∷ a.0,
+  follows (fits_defined a.1.fits) (g.is_mark refl (g.is_formula {g = None} refl (g.is_implication {g = None} refl (g.is_disjunction {gs = []} refl
+      (g.is_conjunction {gs = []} refl (g.is_true (g.is_mark refl (g.no_and (g.no_or (g.no_imp (g.no_iff (g.is_mark refl a.1.derives)))))))))))),
+)
 
 header_at : (n : Text) (xs : List Text) (s : Stack) (ws : List Word) (p : List Part)
     → Fits (defined n xs ∷ s) p → Derives p ws → Follows (header n ∷ s) ws
@@ -214,9 +214,10 @@ completes [] = ([], follows nothing g.nothing_left)
 completes (mark kind ∷ s) = mark_completes kind s (completes s)
 completes (file ∷ s) = let a = completes s in (a.0, follows (fits_file a.1.fits) (g.file_end a.1.derives))
 completes (declared_name ∷ s) =
-    let a = completes s in
-    (some_word k.Name ∷ some_word k.Slash ∷ some_word k.Number ∷ a.0,
-     follows (fits_declared_name a.1.fits) (g.is_word refl refl (g.is_mark refl (g.is_word refl refl a.1.derives))))
+    let a = completes s in (
+      some_word k.Name ∷ some_word k.Slash ∷ some_word k.Number ∷ a.0,
+      follows (fits_declared_name a.1.fits) (g.is_word refl refl (g.is_mark refl (g.is_word refl refl a.1.derives))),
+    )
 completes (arity n ∷ s) = let a = completes s in (some_word k.Number ∷ a.0, follows (fits_arity a.1.fits) (g.is_word refl refl a.1.derives))
 completes (declarations ∷ s) = let a = completes s in (a.0, follows (fits_declarations a.1.fits) (g.no_declarations a.1.derives))
 completes (predicate_name ∷ s) =

@@ -1,12 +1,12 @@
 -- Which parts of the grammar the machine's symbols stand for.
-use Rattle.std.proofs.Common.{◌≡◌, ℕ, List, [], ◌∷◌, refl, ap, subst}
+use Rattle.std.proofs.Common.{◌≡◌, ℕ, List, [], ◌∷◌, refl, ap}
 use Rattle.formula_ast.specs.declared.token.TokenKind.{TokenKind}
 use Rattle.formula_ast.specs.declared.token.TokenKind.TheVariants as k
 use Rattle.formula_ast.specs.Tokens.{Word}
 use Rattle.formula_grammar.specs.Written.{Text, WrittenTerm, WrittenTerms, WrittenFormula, WrittenStatement, Declaration, Comparison}
 use Rattle.formula_grammar.specs.Grammar as g
 use Rattle.formula_grammar.specs.Grammar.{Part, Derives}
-use Rattle.formula_grammar.specs.Machine.{Place, Head, Symbol, mark, file, declared_name, arity, declarations, predicate_name, header, parameter, more_parameters, defined, predicate_end, formula, iff_tail, implication, imp_tail, disjunction, or_tail, conjunction, and_tail, unary, quantified, more_quantified, opening, game, moves, name_tail, comparison, term, arguments, more_arguments, Stack, Role, Move, refused, goes, adds, step}
+use Rattle.formula_grammar.specs.Machine.{Place, Head, mark, file, declared_name, arity, declarations, predicate_name, header, parameter, more_parameters, defined, predicate_end, formula, iff_tail, implication, imp_tail, disjunction, or_tail, conjunction, and_tail, unary, quantified, more_quantified, opening, game, moves, name_tail, comparison, term, arguments, more_arguments, Stack, Role, Move, refused, adds, step}
 use Rattle.std.proofs.Common.{Option}
 
 -- the symbols are those of the parts
@@ -25,7 +25,7 @@ pub data Fits : Stack → List Part → Type 0 where
   fits_parameter : {name x : Text} {before xs : List Text} {f : WrittenFormula} {s : Stack} {p : List Part}
       → Fits s p
       → Fits (parameter name before ∷ s)
-          (g.word k.Variable x ∷ g.more_parameters xs ∷ g.mark k.RightParen ∷ g.mark k.Define ∷ g.formula f ∷ g.mark k.Stop ∷ p)
+      (g.word k.Variable x ∷ g.more_parameters xs ∷ g.mark k.RightParen ∷ g.mark k.Define ∷ g.formula f ∷ g.mark k.Stop ∷ p)
   fits_more_parameters : {name : Text} {before xs : List Text} {f : WrittenFormula} {s : Stack} {p : List Part}
       → Fits s p
       → Fits (more_parameters name before ∷ s) (g.more_parameters xs ∷ g.mark k.RightParen ∷ g.mark k.Define ∷ g.formula f ∷ g.mark k.Stop ∷ p)
@@ -187,9 +187,6 @@ behind_comparison c s = record { paren = λ text. refl }
 pub behind_argument : (h : Head) (n : ℕ) (c : Place) (s : Stack) → BehindArguments s → BehindTerm (more_arguments h n c ∷ s)
 behind_argument h n c s b = record { paren = λ text. refused_besides _ (b.paren text) }
 
-pub behind_unary : (s : Stack) → BehindUnary s → BehindTerm s
-behind_unary s b = b.inner
-
 -- ---- marks that are none of those
 
 pub term_closed : (s : Stack) → BehindTerm (mark k.RightParen ∷ s)
@@ -198,47 +195,38 @@ term_closed s = record { paren = λ text. refl }
 pub arguments_closed : (s : Stack) → BehindArguments (mark k.RightParen ∷ s)
 arguments_closed s = record { paren = λ text. refl; comma = λ text. refl }
 
-pub formula_closed : (s : Stack) → BehindFormula (mark k.RightParen ∷ s)
-formula_closed s = record {
+behind_formula : (s : Stack) → Refuses s k.LeftParen → Refuses s k.Equal → Refuses s k.Differ → Refuses s k.Amp → Refuses s k.Bar
+    → Refuses s k.Arrow → Refuses s k.DoubleArrow → BehindFormula s
+behind_formula s paren equal differ amp bar arrow double_arrow = record {
   inner = record {
     inner = record {
-      inner = record {
-        inner = record { inner = record { paren = λ text. refl }; same = λ text. refl; other = λ text. refl };
-        amp = λ text. refl;
-      };
-      bar = λ text. refl;
+      inner = record { inner = record { inner = record { paren = paren }; same = equal; other = differ }; amp = amp };
+      bar = bar;
     };
-    arrow = λ text. refl;
+    arrow = arrow;
   };
-  double_arrow = λ text. refl;
+  double_arrow = double_arrow;
 }
+
+pub formula_closed : (s : Stack) → BehindFormula (mark k.RightParen ∷ s)
+formula_closed s =
+    behind_formula _ (λ text. refl) (λ text. refl) (λ text. refl) (λ text. refl) (λ text. refl) (λ text. refl) (λ text. refl)
 
 pub formula_stopped : (s : Stack) → BehindFormula (mark k.Stop ∷ s)
-formula_stopped s = record {
-  inner = record {
-    inner = record {
-      inner = record {
-        inner = record { inner = record { paren = λ text. refl }; same = λ text. refl; other = λ text. refl };
-        amp = λ text. refl;
-      };
-      bar = λ text. refl;
-    };
-    arrow = λ text. refl;
-  };
-  double_arrow = λ text. refl;
-}
+formula_stopped s =
+    behind_formula _ (λ text. refl) (λ text. refl) (λ text. refl) (λ text. refl) (λ text. refl) (λ text. refl) (λ text. refl)
 
 pub body_stopped : (name : Text) (n : ℕ) (s : Stack) → BehindFormula (predicate_end name n ∷ s)
-body_stopped name n s = record {
-  inner = record {
-    inner = record {
-      inner = record {
-        inner = record { inner = record { paren = λ text. refl }; same = λ text. refl; other = λ text. refl };
-        amp = λ text. refl;
-      };
-      bar = λ text. refl;
-    };
-    arrow = λ text. refl;
-  };
-  double_arrow = λ text. refl;
-}
+body_stopped name n s =
+    behind_formula _ (λ text. refl) (λ text. refl) (λ text. refl) (λ text. refl) (λ text. refl) (λ text. refl) (λ text. refl)
+
+-- ---- a whole text
+
+pub file_well : Well (file ∷ [])
+file_well = (record { symbols = λ text. refl; predicates = λ text. refl; formulas = λ text. refl }, tt)
+
+pub formula_well : (c : Place) → Well (formula c ∷ [])
+formula_well c = (
+  behind_formula _ (λ text. refl) (λ text. refl) (λ text. refl) (λ text. refl) (λ text. refl) (λ text. refl) (λ text. refl),
+  tt,
+)

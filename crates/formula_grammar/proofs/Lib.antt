@@ -1,11 +1,11 @@
-pub mod Fits
 pub mod Complete
-pub mod Sound
 pub mod Ends
-pub mod WellKept
+pub mod Fits
 pub mod Mild
+pub mod Sound
 pub mod Standing
-pub mod UniqueWords
+pub mod Unique
 pub mod UniqueParts
 pub mod UniqueTerms
-pub mod Unique
+pub mod UniqueWords
+pub mod WellKept

@@ -1,5 +1,5 @@
 -- What is wrong with a word that the grammar allows is never the fault of the grammar.
-use Rattle.std.proofs.Common.{◌≡◌, ℕ, Bool, true, false, not, ◌&&◌, List, [], ◌∷◌, length, Option, Some, None, subst, refl, if◌then◌else◌, nat_le, nat_eq}
+use Rattle.std.proofs.Common.{◌≡◌, Bool, true, false, not, ◌&&◌, List, [], ◌∷◌, length, Option, Some, None, subst, refl, if◌then◌else◌, nat_le, nat_eq}
 use Rattle.tree_model.specs.declared.kind.Kind.TheVariants as kind
 use Rattle.formula_grammar.specs.declared.fault.FaultKind.{FaultKind}
 use Rattle.formula_grammar.specs.declared.fault.FaultKind.TheVariants.{Byte, Ended, Syntax, Unknown, Twice, Loose, Arity, Sort, Limit, NotBuilt}
@@ -86,7 +86,8 @@ mild_check E (compares f) = one _ _ refl
 mild_check E (stands_alone f) = one _ _ refl
 mild_check E (plays p) =
     four (not (is_declared (declared E.signature p)))
-        (is_declared_as kind.Pred (declared E.signature p) && not (nat_eq (arity_in (declared E.signature p)) 2)) (is_declared_as kind.Symbol (declared E.signature p)) (is_long p) _ _ _ _ refl refl refl refl
+    (is_declared_as kind.Pred (declared E.signature p) && not (nat_eq (arity_in (declared E.signature p)) 2))
+    (is_declared_as kind.Symbol (declared E.signature p)) (is_long p) _ _ _ _ refl refl refl refl
 mild_check E (counts digits) = one _ _ refl
 
 mild_sooner : {x y : Option FaultKind} → IsMild x → IsMild y → IsMild (sooner x y)

@@ -5,9 +5,9 @@ use Rattle.formula_ast.specs.declared.token.TokenKind.TheVariants as k
 use Rattle.formula_ast.specs.Tokens.{Word}
 use Rattle.formula_grammar.specs.Grammar as g
 use Rattle.formula_grammar.specs.Grammar.{Part, Derives}
-use Rattle.formula_grammar.specs.Machine.{Place, deeper, binding, open_place, closed_place, Head, of_name, of_further, Symbol, mark, file, declared_name, arity, declarations, predicate_name, header, parameter, more_parameters, defined, predicate_end, formula, iff_tail, implication, imp_tail, disjunction, or_tail, conjunction, and_tail, unary, quantified, more_quantified, opening, game, moves, name_tail, comparison, term, arguments, more_arguments, Stack, Role, Move, refused, goes, adds, step, unary_step, atom_step, term_step, same}
+use Rattle.formula_grammar.specs.Machine.{Place, deeper, binding, open_place, closed_place, Head, of_name, of_further, mark, file, declared_name, arity, declarations, predicate_name, header, parameter, more_parameters, defined, predicate_end, formula, iff_tail, implication, imp_tail, disjunction, or_tail, conjunction, and_tail, unary, quantified, more_quantified, opening, game, moves, name_tail, comparison, term, arguments, more_arguments, Stack, Role, Move, refused, goes, adds, step, unary_step, atom_step, term_step, same}
 use Rattle.formula_grammar.specs.Written.{Text}
-use Rattle.formula_grammar.proofs.Fits.{Fits, nothing, fits_mark, fits_file, fits_declared_name, fits_arity, fits_declarations, fits_predicate_name, fits_header, fits_parameter, fits_more_parameters, fits_defined, fits_predicate_end, fits_formula, fits_iff_tail, fits_implication, fits_imp_tail, fits_disjunction, fits_or_tail, fits_conjunction, fits_and_tail, fits_unary, fits_quantified, fits_more_quantified, fits_opening, fits_game, fits_moves, fits_name_tail, fits_comparison, fits_term, fits_arguments, fits_more_arguments, Follows, follows}
+use Rattle.formula_grammar.proofs.Fits.{Fits, fits_mark, fits_file, fits_declared_name, fits_arity, fits_declarations, fits_predicate_name, fits_header, fits_parameter, fits_more_parameters, fits_defined, fits_predicate_end, fits_formula, fits_iff_tail, fits_implication, fits_imp_tail, fits_disjunction, fits_or_tail, fits_conjunction, fits_and_tail, fits_unary, fits_quantified, fits_more_quantified, fits_opening, fits_game, fits_moves, fits_name_tail, fits_comparison, fits_term, fits_arguments, fits_more_arguments, Follows, follows}
 use Rattle.formula_grammar.proofs.Complete.{same_is}
 
 -- the symbols stand for the word and what follows it, where what the machine then expects stands for what follows
@@ -31,27 +31,34 @@ module _ (z : Stack) (w : Word) (ws : List Word) where
 
 -- ---- for each move that takes a word: what may follow then, with the word in front
 
-declared_name_at : (s : Stack) (w : Word) (ws : List Word) (p : List Part) (n : Text) → w.kind ≡ k.Name → Fits (mark k.Slash ∷ arity n ∷ s) p → Derives p ws → Follows (declared_name ∷ s) (w ∷ ws)
+declared_name_at : (s : Stack) (w : Word) (ws : List Word) (p : List Part) (n : Text)
+    → w.kind ≡ k.Name → Fits (mark k.Slash ∷ arity n ∷ s) p → Derives p ws → Follows (declared_name ∷ s) (w ∷ ws)
 declared_name_at s w ws p n e (fits_mark (fits_arity f)) d = follows (fits_declared_name f) (g.is_word e refl d)
 
-symbols_at : (s : Stack) (w : Word) (ws : List Word) (p : List Part) → w.kind ≡ k.Symbol → Fits (declared_name ∷ declarations ∷ mark k.Stop ∷ file ∷ s) p → Derives p ws → Follows (file ∷ s) (w ∷ ws)
+symbols_at : (s : Stack) (w : Word) (ws : List Word) (p : List Part)
+    → w.kind ≡ k.Symbol → Fits (declared_name ∷ declarations ∷ mark k.Stop ∷ file ∷ s) p → Derives p ws → Follows (file ∷ s) (w ∷ ws)
 symbols_at s w ws p e (fits_declared_name {name = name} {digits = digits} (fits_declarations (fits_mark (fits_file f)))) d =
     follows (fits_file f) (g.file_symbols {d = record { name = name; digits = digits }} (g.is_mark e d))
 
-predicate_at : (s : Stack) (w : Word) (ws : List Word) (p : List Part) → w.kind ≡ k.Pred → Fits (predicate_name ∷ file ∷ s) p → Derives p ws → Follows (file ∷ s) (w ∷ ws)
+predicate_at : (s : Stack) (w : Word) (ws : List Word) (p : List Part)
+    → w.kind ≡ k.Pred → Fits (predicate_name ∷ file ∷ s) p → Derives p ws → Follows (file ∷ s) (w ∷ ws)
 predicate_at s w ws p e (fits_predicate_name (fits_file f)) d = follows (fits_file f) (g.file_predicate (g.is_mark e d))
 
-solve_at : (s : Stack) (w : Word) (ws : List Word) (p : List Part) (c : Place) → w.kind ≡ k.Solve → Fits (formula c ∷ mark k.Stop ∷ file ∷ s) p → Derives p ws → Follows (file ∷ s) (w ∷ ws)
+solve_at : (s : Stack) (w : Word) (ws : List Word) (p : List Part) (c : Place)
+    → w.kind ≡ k.Solve → Fits (formula c ∷ mark k.Stop ∷ file ∷ s) p → Derives p ws → Follows (file ∷ s) (w ∷ ws)
 solve_at s w ws p c e (fits_formula (fits_mark (fits_file f))) d = follows (fits_file f) (g.file_solve (g.is_mark e d))
 
-declaration_at : (s : Stack) (w : Word) (ws : List Word) (p : List Part) → w.kind ≡ k.Comma → Fits (declared_name ∷ declarations ∷ s) p → Derives p ws → Follows (declarations ∷ s) (w ∷ ws)
+declaration_at : (s : Stack) (w : Word) (ws : List Word) (p : List Part)
+    → w.kind ≡ k.Comma → Fits (declared_name ∷ declarations ∷ s) p → Derives p ws → Follows (declarations ∷ s) (w ∷ ws)
 declaration_at s w ws p e (fits_declared_name {name = name} {digits = digits} (fits_declarations f)) d =
     follows (fits_declarations f) (g.next_declaration {d = record { name = name; digits = digits }} (g.is_mark e d))
 
-predicate_name_at : (s : Stack) (w : Word) (ws : List Word) (p : List Part) (n : Text) → w.kind ≡ k.Name → Fits (header n ∷ s) p → Derives p ws → Follows (predicate_name ∷ s) (w ∷ ws)
+predicate_name_at : (s : Stack) (w : Word) (ws : List Word) (p : List Part) (n : Text)
+    → w.kind ≡ k.Name → Fits (header n ∷ s) p → Derives p ws → Follows (predicate_name ∷ s) (w ∷ ws)
 predicate_name_at s w ws p n e (fits_header f) d = follows (fits_predicate_name f) (g.is_word e refl d)
 
-parameters_at : (s : Stack) (w : Word) (ws : List Word) (p : List Part) (n : Text) (xs : List Text) → w.kind ≡ k.LeftParen → Fits (parameter n xs ∷ s) p → Derives p ws → Follows (header n ∷ s) (w ∷ ws)
+parameters_at : (s : Stack) (w : Word) (ws : List Word) (p : List Part) (n : Text) (xs : List Text)
+    → w.kind ≡ k.LeftParen → Fits (parameter n xs ∷ s) p → Derives p ws → Follows (header n ∷ s) (w ∷ ws)
 parameters_at s w ws p n xs e (fits_parameter f) d = follows (fits_header f) (g.some_parameters (g.is_mark e d))
 
 no_parameters_at : (s : Stack) (w : Word) (ws : List Word) (p : List Part) (n : Text) (c : Place) (i : ℕ)
@@ -74,38 +81,48 @@ defined_at : (s : Stack) (w : Word) (ws : List Word) (p : List Part) (n : Text) 
     → w.kind ≡ k.Define → Fits (formula c ∷ predicate_end n i ∷ s) p → Derives p ws → Follows (defined n xs ∷ s) (w ∷ ws)
 defined_at s w ws p n xs c i e (fits_formula (fits_predicate_end f)) d = follows (fits_defined f) (g.is_mark e d)
 
-iff_at : (s : Stack) (w : Word) (ws : List Word) (p : List Part) (c : Place) → w.kind ≡ k.DoubleArrow → Fits (implication c ∷ s) p → Derives p ws → Follows (iff_tail c ∷ s) (w ∷ ws)
+iff_at : (s : Stack) (w : Word) (ws : List Word) (p : List Part) (c : Place)
+    → w.kind ≡ k.DoubleArrow → Fits (implication c ∷ s) p → Derives p ws → Follows (iff_tail c ∷ s) (w ∷ ws)
 iff_at s w ws p c e (fits_implication f) d = follows (fits_iff_tail f) (g.some_iff (g.is_mark e d))
 
-imp_at : (s : Stack) (w : Word) (ws : List Word) (p : List Part) (b c : Place) → w.kind ≡ k.Arrow → Fits (implication b ∷ s) p → Derives p ws → Follows (imp_tail c ∷ s) (w ∷ ws)
+imp_at : (s : Stack) (w : Word) (ws : List Word) (p : List Part) (b c : Place)
+    → w.kind ≡ k.Arrow → Fits (implication b ∷ s) p → Derives p ws → Follows (imp_tail c ∷ s) (w ∷ ws)
 imp_at s w ws p b c e (fits_implication f) d = follows (fits_imp_tail f) (g.some_imp (g.is_mark e d))
 
-or_at : (s : Stack) (w : Word) (ws : List Word) (p : List Part) (c : Place) → w.kind ≡ k.Bar → Fits (conjunction c ∷ or_tail c ∷ s) p → Derives p ws → Follows (or_tail c ∷ s) (w ∷ ws)
+or_at : (s : Stack) (w : Word) (ws : List Word) (p : List Part) (c : Place)
+    → w.kind ≡ k.Bar → Fits (conjunction c ∷ or_tail c ∷ s) p → Derives p ws → Follows (or_tail c ∷ s) (w ∷ ws)
 or_at s w ws p c e (fits_conjunction (fits_or_tail f)) d = follows (fits_or_tail f) (g.next_or (g.is_mark e d))
 
-and_at : (s : Stack) (w : Word) (ws : List Word) (p : List Part) (c : Place) → w.kind ≡ k.Amp → Fits (unary c ∷ and_tail c ∷ s) p → Derives p ws → Follows (and_tail c ∷ s) (w ∷ ws)
+and_at : (s : Stack) (w : Word) (ws : List Word) (p : List Part) (c : Place)
+    → w.kind ≡ k.Amp → Fits (unary c ∷ and_tail c ∷ s) p → Derives p ws → Follows (and_tail c ∷ s) (w ∷ ws)
 and_at s w ws p c e (fits_unary (fits_and_tail f)) d = follows (fits_and_tail f) (g.next_and (g.is_mark e d))
 
-not_at : (s : Stack) (w : Word) (ws : List Word) (p : List Part) (b c : Place) → w.kind ≡ k.Tilde → Fits (unary b ∷ s) p → Derives p ws → Follows (unary c ∷ s) (w ∷ ws)
+not_at : (s : Stack) (w : Word) (ws : List Word) (p : List Part) (b c : Place)
+    → w.kind ≡ k.Tilde → Fits (unary b ∷ s) p → Derives p ws → Follows (unary c ∷ s) (w ∷ ws)
 not_at s w ws p b c e (fits_unary f) d = follows (fits_unary f) (g.is_not (g.is_mark e d))
 
-exists_at : (s : Stack) (w : Word) (ws : List Word) (p : List Part) (b c : Place) → w.kind ≡ k.«Exists» → Fits (quantified b ∷ s) p → Derives p ws → Follows (unary c ∷ s) (w ∷ ws)
+exists_at : (s : Stack) (w : Word) (ws : List Word) (p : List Part) (b c : Place)
+    → w.kind ≡ k.«Exists» → Fits (quantified b ∷ s) p → Derives p ws → Follows (unary c ∷ s) (w ∷ ws)
 exists_at s w ws p b c e (fits_quantified f) d = follows (fits_unary f) (g.is_exists (g.is_mark e d))
 
-forall_at : (s : Stack) (w : Word) (ws : List Word) (p : List Part) (b c : Place) → w.kind ≡ k.Forall → Fits (quantified b ∷ s) p → Derives p ws → Follows (unary c ∷ s) (w ∷ ws)
+forall_at : (s : Stack) (w : Word) (ws : List Word) (p : List Part) (b c : Place)
+    → w.kind ≡ k.Forall → Fits (quantified b ∷ s) p → Derives p ws → Follows (unary c ∷ s) (w ∷ ws)
 forall_at s w ws p b c e (fits_quantified f) d = follows (fits_unary f) (g.is_forall (g.is_mark e d))
 
-quantified_at : (s : Stack) (w : Word) (ws : List Word) (p : List Part) (b c : Place) → w.kind ≡ k.Variable → Fits (more_quantified b ∷ s) p → Derives p ws → Follows (quantified c ∷ s) (w ∷ ws)
+quantified_at : (s : Stack) (w : Word) (ws : List Word) (p : List Part) (b c : Place)
+    → w.kind ≡ k.Variable → Fits (more_quantified b ∷ s) p → Derives p ws → Follows (quantified c ∷ s) (w ∷ ws)
 quantified_at s w ws p b c e (fits_more_quantified f) d = follows (fits_quantified f) (g.is_word e refl d)
 
 next_variable_at : (s : Stack) (w : Word) (ws : List Word) (p : List Part) (b c : Place)
     → w.kind ≡ k.Variable → Fits (more_quantified b ∷ s) p → Derives p ws → Follows (more_quantified c ∷ s) (w ∷ ws)
 next_variable_at s w ws p b c e (fits_more_quantified f) d = follows (fits_more_quantified f) (g.next_variable (g.is_word e refl d))
 
-body_at : (s : Stack) (w : Word) (ws : List Word) (p : List Part) (c : Place) → w.kind ≡ k.Colon → Fits (unary c ∷ s) p → Derives p ws → Follows (more_quantified c ∷ s) (w ∷ ws)
+body_at : (s : Stack) (w : Word) (ws : List Word) (p : List Part) (c : Place)
+    → w.kind ≡ k.Colon → Fits (unary c ∷ s) p → Derives p ws → Follows (more_quantified c ∷ s) (w ∷ ws)
 body_at s w ws p c e (fits_unary f) d = follows (fits_more_quantified f) (g.no_variables (g.is_mark e d))
 
-group_at : (s : Stack) (w : Word) (ws : List Word) (p : List Part) (b c : Place) → w.kind ≡ k.LeftParen → Fits (formula b ∷ mark k.RightParen ∷ s) p → Derives p ws → Follows (unary c ∷ s) (w ∷ ws)
+group_at : (s : Stack) (w : Word) (ws : List Word) (p : List Part) (b c : Place)
+    → w.kind ≡ k.LeftParen → Fits (formula b ∷ mark k.RightParen ∷ s) p → Derives p ws → Follows (unary c ∷ s) (w ∷ ws)
 group_at s w ws p b c e (fits_formula (fits_mark f)) d = follows (fits_unary f) (g.is_group (g.is_mark e d))
 
 finite_at : (s : Stack) (w : Word) (ws : List Word) (p : List Part) (n : ℕ) (b c : Place)
@@ -122,29 +139,36 @@ named_atom_at : (s : Stack) (w : Word) (ws : List Word) (p : List Part) (n : Tex
     → w.kind ≡ k.Name → Fits (arguments h c ∷ name_tail n c ∷ s) p → Derives p ws → Follows (unary c ∷ s) (w ∷ ws)
 named_atom_at s w ws p n h c e (fits_arguments (fits_name_tail f)) d = follows (fits_unary f) (g.is_named_atom refl (g.is_word e refl d))
 
-variable_atom_at : (s : Stack) (w : Word) (ws : List Word) (p : List Part) (c : Place) → w.kind ≡ k.Variable → Fits (comparison c ∷ s) p → Derives p ws → Follows (unary c ∷ s) (w ∷ ws)
+variable_atom_at : (s : Stack) (w : Word) (ws : List Word) (p : List Part) (c : Place)
+    → w.kind ≡ k.Variable → Fits (comparison c ∷ s) p → Derives p ws → Follows (unary c ∷ s) (w ∷ ws)
 variable_atom_at s w ws p c e (fits_comparison f) d = follows (fits_unary f) (g.is_variable_atom refl (g.is_word e refl d))
 
 further_atom_at : (s : Stack) (w : Word) (ws : List Word) (p : List Part) (h : Head) (c : Place)
     → w.kind ≡ k.Further → Fits (arguments h c ∷ comparison c ∷ s) p → Derives p ws → Follows (unary c ∷ s) (w ∷ ws)
 further_atom_at s w ws p h c e (fits_arguments (fits_comparison f)) d = follows (fits_unary f) (g.is_further_atom refl (g.is_word e refl d))
 
-equal_at : (s : Stack) (w : Word) (ws : List Word) (p : List Part) (c : Place) → w.kind ≡ k.Equal → Fits (term c ∷ s) p → Derives p ws → Follows (comparison c ∷ s) (w ∷ ws)
+equal_at : (s : Stack) (w : Word) (ws : List Word) (p : List Part) (c : Place)
+    → w.kind ≡ k.Equal → Fits (term c ∷ s) p → Derives p ws → Follows (comparison c ∷ s) (w ∷ ws)
 equal_at s w ws p c e (fits_term f) d = follows (fits_comparison f) (g.is_equal (g.is_mark e d))
 
-differ_at : (s : Stack) (w : Word) (ws : List Word) (p : List Part) (c : Place) → w.kind ≡ k.Differ → Fits (term c ∷ s) p → Derives p ws → Follows (comparison c ∷ s) (w ∷ ws)
+differ_at : (s : Stack) (w : Word) (ws : List Word) (p : List Part) (c : Place)
+    → w.kind ≡ k.Differ → Fits (term c ∷ s) p → Derives p ws → Follows (comparison c ∷ s) (w ∷ ws)
 differ_at s w ws p c e (fits_term f) d = follows (fits_comparison f) (g.is_differ (g.is_mark e d))
 
-equal_tail_at : (s : Stack) (w : Word) (ws : List Word) (p : List Part) (n : Text) (c : Place) → w.kind ≡ k.Equal → Fits (term c ∷ s) p → Derives p ws → Follows (name_tail n c ∷ s) (w ∷ ws)
+equal_tail_at : (s : Stack) (w : Word) (ws : List Word) (p : List Part) (n : Text) (c : Place)
+    → w.kind ≡ k.Equal → Fits (term c ∷ s) p → Derives p ws → Follows (name_tail n c ∷ s) (w ∷ ws)
 equal_tail_at s w ws p n c e (fits_term f) d = follows (fits_name_tail f) (g.some_tail (g.is_equal (g.is_mark e d)))
 
-differ_tail_at : (s : Stack) (w : Word) (ws : List Word) (p : List Part) (n : Text) (c : Place) → w.kind ≡ k.Differ → Fits (term c ∷ s) p → Derives p ws → Follows (name_tail n c ∷ s) (w ∷ ws)
+differ_tail_at : (s : Stack) (w : Word) (ws : List Word) (p : List Part) (n : Text) (c : Place)
+    → w.kind ≡ k.Differ → Fits (term c ∷ s) p → Derives p ws → Follows (name_tail n c ∷ s) (w ∷ ws)
 differ_tail_at s w ws p n c e (fits_term f) d = follows (fits_name_tail f) (g.some_tail (g.is_differ (g.is_mark e d)))
 
-named_at : (s : Stack) (w : Word) (ws : List Word) (p : List Part) (h : Head) (c : Place) → w.kind ≡ k.Name → Fits (arguments h c ∷ s) p → Derives p ws → Follows (term c ∷ s) (w ∷ ws)
+named_at : (s : Stack) (w : Word) (ws : List Word) (p : List Part) (h : Head) (c : Place)
+    → w.kind ≡ k.Name → Fits (arguments h c ∷ s) p → Derives p ws → Follows (term c ∷ s) (w ∷ ws)
 named_at s w ws p h c e (fits_arguments f) d = follows (fits_term f) (g.is_named (g.is_word e refl d))
 
-further_at : (s : Stack) (w : Word) (ws : List Word) (p : List Part) (h : Head) (c : Place) → w.kind ≡ k.Further → Fits (arguments h c ∷ s) p → Derives p ws → Follows (term c ∷ s) (w ∷ ws)
+further_at : (s : Stack) (w : Word) (ws : List Word) (p : List Part) (h : Head) (c : Place)
+    → w.kind ≡ k.Further → Fits (arguments h c ∷ s) p → Derives p ws → Follows (term c ∷ s) (w ∷ ws)
 further_at s w ws p h c e (fits_arguments f) d = follows (fits_term f) (g.is_further (g.is_word e refl d))
 
 arguments_at : (s : Stack) (w : Word) (ws : List Word) (p : List Part) (h : Head) (n : ℕ) (b c : Place)

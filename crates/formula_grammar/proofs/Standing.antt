@@ -5,20 +5,19 @@ use Rattle.formula_ast.specs.Tokens.{Stream, end, bad, token, tokens_at, Word, w
 use Rattle.tree_model.specs.Signatures.{Signature}
 use Rattle.formula_grammar.specs.declared.fault.Fault.{Fault}
 use Rattle.formula_grammar.specs.declared.fault.FaultKind.{FaultKind}
-use Rattle.formula_grammar.specs.declared.fault.FaultKind.TheVariants.{Byte, Ended, Syntax, Limit}
-use Rattle.formula_grammar.specs.Written.{WrittenStatement, WrittenFormula}
-use Rattle.formula_grammar.specs.Grammar.{Part, Derives, IsFile, IsFormula}
-use Rattle.formula_grammar.specs.Machine.{Stack, Symbol, file, formula, open_place, Place, Role, Move, refused, goes, step, at_end}
+use Rattle.formula_grammar.specs.declared.fault.FaultKind.TheVariants.{Limit}
+use Rattle.formula_grammar.specs.Grammar.{Part, Derives}
+use Rattle.formula_grammar.specs.Machine.{Stack, file, formula, open_place, Place, Role, Move, refused, goes, step, at_end}
 use Rattle.formula_grammar.specs.Checks.{Environment, check_all, update_all}
 use Rattle.formula_grammar.specs.FirstFault.{fault_at, judged, at_move, ended, fault_from, fault_of_text, file_fault, formula_fault}
 use Rattle.formula_grammar.specs.Begins as b
 use Rattle.formula_grammar.specs.Begins.{BeginsWith, CanBegin, StandsRight, IsSomeFile, IsSomeFormula}
-use Rattle.formula_grammar.proofs.Fits.{Fits, nothing, fits_file, fits_formula, Follows, follows, Well, BehindFormula, BehindFile}
+use Rattle.formula_grammar.proofs.Fits.{Fits, nothing, fits_file, fits_formula, Follows, follows, Well, file_well, formula_well}
 use Rattle.formula_grammar.proofs.Complete.{Goes, complete}
 use Rattle.formula_grammar.proofs.Sound.{Back, sound}
 use Rattle.formula_grammar.proofs.Ends.{Ends, end_complete, end_sound, completes}
 use Rattle.formula_grammar.proofs.WellKept.{Keeps, to, well_step}
-use Rattle.formula_grammar.proofs.Mild.{IsMild, nothing_wrong, OfOthers, of_others, mild_all}
+use Rattle.formula_grammar.proofs.Mild.{IsMild, nothing_wrong, of_others, mild_all}
 
 -- a whole text of the symbols
 abbrev Whole : List ℕ → Stack → Stream → Type 0
@@ -127,36 +126,12 @@ is_formula c ws f = formula_of c ws f.parts f.fits f.derives
 of_formula : (c : Place) (ws : List Word) → IsSomeFormula ws → Follows (formula c ∷ []) ws
 of_formula c ws f = follows (fits_formula nothing) f.1
 
-pub file_well : Well (file ∷ [])
-file_well = (record { symbols = λ text. refl; predicates = λ text. refl; formulas = λ text. refl }, tt)
-
-pub formula_well : (c : Place) → Well (formula c ∷ [])
-formula_well c = (
-    record {
-      inner = record {
-        inner = record {
-          inner = record {
-            inner = record { inner = record { paren = λ text. refl }; same = λ text. refl; other = λ text. refl };
-            amp = λ text. refl;
-          };
-          bar = λ text. refl;
-        };
-        arrow = λ text. refl;
-      };
-      double_arrow = λ text. refl;
-    },
-    tt,
-  )
-
 -- ---- a text within the limit of size
 
 within : (bytes : List ℕ) → length bytes ≤ 1048576 → nat_lt 1048576 (length bytes) ≡ false
 within bytes h = grind arith
 
 module _ (σ : Signature) (s : Stack) (bytes : List ℕ) (a : Well s) where
-  environment : Environment
-  environment = record { signature = σ; joints = 0 }
-
   fault_says : (fault : Fault) → length bytes ≤ 1048576 → fault_of_text σ s bytes ≡ Some fault
       → StandsRight (Follows s) bytes (tokens_at bytes 0) fault
   fault_says fault h e =
@@ -183,7 +158,7 @@ pub formula_faults_stand_right : (σ : Signature) (bytes : List ℕ) (fault : Fa
 unfolding formula_fault
 formula_faults_stand_right σ bytes fault h e =
     stands_alike (Follows (formula open_place ∷ [])) IsSomeFormula (is_formula open_place) (of_formula open_place)
-        (fault_says σ (formula open_place ∷ []) bytes (formula_well open_place) fault h e)
+    (fault_says σ (formula open_place ∷ []) bytes (formula_well open_place) fault h e)
 
 pub faultless_files_read : (bytes : List ℕ) → file_fault bytes ≡ None
     → (ws : List Word) × (at : ℕ) × BeginsWith bytes (tokens_at bytes 0) ws (end at) × IsSomeFile ws

@@ -1,18 +1,16 @@
 -- A list of words reads in one way only.
-use Rattle.std.proofs.Common.{◌≡◌, List, [], ◌∷◌, refl, ap}
-use Rattle.formula_ast.specs.declared.token.TokenKind.{TokenKind}
+use Rattle.std.proofs.Common.{◌≡◌, List, [], ◌∷◌, refl}
 use Rattle.formula_ast.specs.declared.token.TokenKind.TheVariants as k
 use Rattle.formula_ast.specs.Tokens.{Word}
 use Rattle.formula_grammar.specs.Grammar as g
 use Rattle.formula_grammar.specs.Grammar.{Part, Derives}
-use Rattle.formula_grammar.specs.Machine.{Place, open_place, Head, of_name, of_further, Symbol, mark, file, declared_name, arity, declarations, predicate_name, header, parameter, more_parameters, defined, predicate_end, formula, iff_tail, implication, imp_tail, disjunction, or_tail, conjunction, and_tail, unary, quantified, more_quantified, opening, game, moves, name_tail, comparison, term, arguments, more_arguments, Stack}
+use Rattle.formula_grammar.specs.Machine.{open_place, of_name, of_further, mark, file, Stack}
 use Rattle.formula_grammar.specs.Written.{WrittenFormula, WrittenStatement}
 use Rattle.formula_grammar.specs.Grammar.{IsFile, IsFormula}
-use Rattle.formula_grammar.proofs.Fits.{Fits, nothing, fits_mark, fits_file, fits_declared_name, fits_arity, fits_declarations, fits_predicate_name, fits_header, fits_parameter, fits_more_parameters, fits_defined, fits_predicate_end, fits_formula, fits_iff_tail, fits_implication, fits_imp_tail, fits_disjunction, fits_or_tail, fits_conjunction, fits_and_tail, fits_unary, fits_quantified, fits_more_quantified, fits_opening, fits_game, fits_moves, fits_name_tail, fits_comparison, fits_term, fits_arguments, fits_more_arguments, Well, BehindFile, behind_iff_tail, behind_imp_tail, behind_or_tail, behind_and_tail, behind_name_tail, behind_comparison, behind_argument, term_closed, arguments_closed, formula_closed, formula_stopped, body_stopped}
+use Rattle.formula_grammar.proofs.Fits.{Fits, nothing, fits_mark, fits_file, fits_declared_name, fits_arity, fits_declarations, fits_predicate_name, fits_header, fits_parameter, fits_more_parameters, fits_defined, fits_predicate_end, fits_formula, fits_iff_tail, fits_implication, fits_imp_tail, fits_disjunction, fits_or_tail, fits_conjunction, fits_and_tail, fits_unary, fits_quantified, fits_more_quantified, fits_opening, fits_game, fits_moves, fits_name_tail, fits_comparison, fits_term, fits_arguments, fits_more_arguments, Well, behind_iff_tail, behind_imp_tail, behind_or_tail, behind_and_tail, behind_name_tail, behind_comparison, behind_argument, term_closed, arguments_closed, formula_closed, formula_stopped, body_stopped, file_well, formula_well}
 use Rattle.formula_grammar.proofs.UniqueWords.{Tells, by_mark, by_defined, by_predicate_end, by_opening, by_declared_name, by_arity, by_predicate_name, by_parameter, by_quantified, by_game, by_moves, by_file_end, by_symbols, by_predicate, by_solve, by_no_declarations, by_next_declaration, by_no_parameters, by_some_parameters, by_last_parameter, by_next_parameter}
 use Rattle.formula_grammar.proofs.UniqueParts.{by_formula, by_no_iff, by_iff, by_implication, by_no_imp, by_imp, by_disjunction, by_no_or, by_or, by_conjunction, by_no_and, by_and, by_not, by_exists, by_forall, by_group, by_true, by_false, by_finite, by_win, by_named_atom, by_variable_atom, by_further_atom, by_no_variables, by_next_variable}
 use Rattle.formula_grammar.proofs.UniqueTerms.{by_no_tail, by_tail, by_equal, by_differ, by_variable, by_named, by_further, by_no_arguments, by_arguments, by_last_argument, by_next_argument}
-use Rattle.formula_grammar.proofs.Standing.{file_well, formula_well}
 
 no_parts : (q : List Part) → Fits [] q → [] ≡ q
 no_parts _ nothing = refl
@@ -101,7 +99,7 @@ unique (g.is_further (g.is_word e x d)) (fits_term {c = c} f) a = by_further e x
 unique (g.no_arguments d) (fits_arguments f) a = by_no_arguments d f a (unique d f a.1)
 unique (g.some_arguments (g.is_mark e d)) (fits_arguments {h = h} {c = c} {s = s} f) a =
     by_arguments e a (unique d (fits_term {c = c} (fits_more_arguments {h = h} {n = 1} {c = c} (fits_mark f)))
-        (behind_argument h 1 c (mark k.RightParen ∷ s) (arguments_closed s), (arguments_closed s, a.1)))
+    (behind_argument h 1 c (mark k.RightParen ∷ s) (arguments_closed s), (arguments_closed s, a.1)))
 unique (g.last_argument d) (fits_more_arguments f) a = by_last_argument d f a (unique d f a.1)
 unique (g.next_argument (g.is_mark e d)) (fits_more_arguments {h = h} {n = n} {c = c} {s = s} f) a =
     by_next_argument e a (unique d (fits_term {c = c} (fits_more_arguments {h = h} {n = n} {c = c} f)) (behind_argument h n c s a.0, a))

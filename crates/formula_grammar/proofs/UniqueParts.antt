@@ -1,13 +1,13 @@
 -- Two readings of an operator's parts, of an atom or of a term are one, where the readings of their parts are.
-use Rattle.std.proofs.Common.{◌≡◌, ℕ, List, [], ◌∷◌, Option, Some, None, refl, sym, ◌∙◌, ap, subst}
+use Rattle.std.proofs.Common.{◌≡◌, List, [], ◌∷◌, Option, Some, None, refl, sym, ap, subst}
 use Rattle.formula_ast.specs.declared.token.TokenKind.{TokenKind}
 use Rattle.formula_ast.specs.declared.token.TokenKind.TheVariants as k
 use Rattle.formula_ast.specs.Tokens.{Word}
-use Rattle.formula_grammar.specs.Written.{Text, WrittenTerm, variable, named, further, WrittenTerms, no_terms, one_more, WrittenFormula, truth, falsity, finite, win, no, exists, forall, group, Declaration, WrittenStatement, symbols, predicate, solve, Comparison, equals, differs, compared, all_of, some_of, implied, equated, named_atom}
+use Rattle.formula_grammar.specs.Written.{Text, WrittenTerm, variable, further, WrittenTerms, WrittenFormula, truth, falsity, finite, win, no, exists, forall, group, Comparison, compared, all_of, some_of, implied, equated, named_atom}
 use Rattle.formula_grammar.specs.Grammar as g
 use Rattle.formula_grammar.specs.Grammar.{Part, Derives}
-use Rattle.formula_grammar.specs.Machine.{Place, Head, of_name, of_further, Symbol, mark, file, declared_name, arity, declarations, predicate_name, header, parameter, more_parameters, defined, predicate_end, formula, iff_tail, implication, imp_tail, disjunction, or_tail, conjunction, and_tail, unary, quantified, more_quantified, opening, game, moves, name_tail, comparison, term, arguments, more_arguments, Stack, step}
-use Rattle.formula_grammar.proofs.Fits.{Fits, nothing, fits_mark, fits_file, fits_declared_name, fits_arity, fits_declarations, fits_predicate_name, fits_header, fits_parameter, fits_more_parameters, fits_defined, fits_predicate_end, fits_formula, fits_iff_tail, fits_implication, fits_imp_tail, fits_disjunction, fits_or_tail, fits_conjunction, fits_and_tail, fits_unary, fits_quantified, fits_more_quantified, fits_opening, fits_game, fits_moves, fits_name_tail, fits_comparison, fits_term, fits_arguments, fits_more_arguments, Refuses, Well, BehindUnary}
+use Rattle.formula_grammar.specs.Machine.{Place, of_name, of_further, mark, formula, iff_tail, implication, imp_tail, disjunction, or_tail, conjunction, and_tail, unary, quantified, more_quantified, game, moves, name_tail, comparison, term, arguments, Stack}
+use Rattle.formula_grammar.proofs.Fits.{Fits, fits_mark, fits_formula, fits_iff_tail, fits_implication, fits_imp_tail, fits_disjunction, fits_or_tail, fits_conjunction, fits_and_tail, fits_unary, fits_quantified, fits_more_quantified, fits_game, fits_moves, fits_name_tail, fits_comparison, fits_term, fits_arguments, Well}
 use Rattle.formula_grammar.proofs.Complete.{mark_first}
 use Rattle.formula_grammar.proofs.UniqueWords.{Tells, not_next}
 
@@ -146,21 +146,24 @@ by_not {w = w} {ws = ws} e tells _ (fits_unary {f = g} {p = q} f) d =
     let h = tells _ (fits_unary f) u.2 in cc
 
 pub by_exists : {c : Place} {x : Text} {xs : List Text} {f : WrittenFormula} {s : Stack} {p : List Part} {w : Word} {ws : List Word}
-    → w.kind ≡ k.«Exists» → Tells (quantified c ∷ s) ws (g.word k.Variable x ∷ g.variables xs ∷ g.mark k.Colon ∷ g.unary f ∷ p) → Tells (unary c ∷ s) (w ∷ ws) (g.unary (exists (x ∷ xs) f) ∷ p)
+    → w.kind ≡ k.«Exists» → Tells (quantified c ∷ s) ws (g.word k.Variable x ∷ g.variables xs ∷ g.mark k.Colon ∷ g.unary f ∷ p)
+    → Tells (unary c ∷ s) (w ∷ ws) (g.unary (exists (x ∷ xs) f) ∷ p)
 by_exists {w = w} {ws = ws} e tells _ (fits_unary {f = g} {p = q} f) d =
     let u = unary_of w ws g q k.«Exists» e d in
     let same = u.3 in
     let h = tells _ (fits_quantified f) u.4 in cc
 
 pub by_forall : {c : Place} {x : Text} {xs : List Text} {f : WrittenFormula} {s : Stack} {p : List Part} {w : Word} {ws : List Word}
-    → w.kind ≡ k.Forall → Tells (quantified c ∷ s) ws (g.word k.Variable x ∷ g.variables xs ∷ g.mark k.Colon ∷ g.unary f ∷ p) → Tells (unary c ∷ s) (w ∷ ws) (g.unary (forall (x ∷ xs) f) ∷ p)
+    → w.kind ≡ k.Forall → Tells (quantified c ∷ s) ws (g.word k.Variable x ∷ g.variables xs ∷ g.mark k.Colon ∷ g.unary f ∷ p)
+    → Tells (unary c ∷ s) (w ∷ ws) (g.unary (forall (x ∷ xs) f) ∷ p)
 by_forall {w = w} {ws = ws} e tells _ (fits_unary {f = g} {p = q} f) d =
     let u = unary_of w ws g q k.Forall e d in
     let same = u.3 in
     let h = tells _ (fits_quantified f) u.4 in cc
 
 pub by_group : {c : Place} {f : WrittenFormula} {s : Stack} {p : List Part} {w : Word} {ws : List Word}
-    → w.kind ≡ k.LeftParen → Tells (formula c ∷ mark k.RightParen ∷ s) ws (g.formula f ∷ g.mark k.RightParen ∷ p) → Tells (unary c ∷ s) (w ∷ ws) (g.unary (group f) ∷ p)
+    → w.kind ≡ k.LeftParen → Tells (formula c ∷ mark k.RightParen ∷ s) ws (g.formula f ∷ g.mark k.RightParen ∷ p)
+    → Tells (unary c ∷ s) (w ∷ ws) (g.unary (group f) ∷ p)
 by_group {w = w} {ws = ws} e tells _ (fits_unary {f = g} {p = q} f) d =
     let u = unary_of w ws g q k.LeftParen e d in
     let same = u.1 in
@@ -181,21 +184,26 @@ by_false {w = w} {ws = ws} e tells _ (fits_unary {f = g} {p = q} f) d =
     let h = tells _ (f) u.1 in cc
 
 pub by_finite : {c : Place} {t : WrittenTerm} {s : Stack} {p : List Part} {w : Word} {ws : List Word}
-    → w.kind ≡ k.Finite → Tells (mark k.LeftParen ∷ term c ∷ mark k.RightParen ∷ s) ws (g.mark k.LeftParen ∷ g.term t ∷ g.mark k.RightParen ∷ p) → Tells (unary c ∷ s) (w ∷ ws) (g.unary (finite t) ∷ p)
+    → w.kind ≡ k.Finite → Tells (mark k.LeftParen ∷ term c ∷ mark k.RightParen ∷ s) ws (g.mark k.LeftParen ∷ g.term t ∷ g.mark k.RightParen ∷ p)
+    → Tells (unary c ∷ s) (w ∷ ws) (g.unary (finite t) ∷ p)
 by_finite {w = w} {ws = ws} e tells _ (fits_unary {f = g} {p = q} f) d =
     let u = unary_of w ws g q k.Finite e d in
     let same = u.1 in
     let h = tells _ (fits_mark (fits_term (fits_mark f))) u.2 in cc
 
 pub by_win : {c : Place} {name n : Text} {t : WrittenTerm} {s : Stack} {p : List Part} {w : Word} {ws : List Word}
-    → w.kind ≡ k.Win → Tells (mark k.LeftParen ∷ game ∷ mark k.Comma ∷ moves ∷ mark k.Comma ∷ term c ∷ mark k.RightParen ∷ s) ws (g.mark k.LeftParen ∷ g.word k.Name name ∷ g.mark k.Comma ∷ g.word k.Number n ∷ g.mark k.Comma ∷ g.term t ∷ g.mark k.RightParen ∷ p) → Tells (unary c ∷ s) (w ∷ ws) (g.unary (win name n t) ∷ p)
+    → w.kind ≡ k.Win
+    → Tells (mark k.LeftParen ∷ game ∷ mark k.Comma ∷ moves ∷ mark k.Comma ∷ term c ∷ mark k.RightParen ∷ s) ws
+    (g.mark k.LeftParen ∷ g.word k.Name name ∷ g.mark k.Comma ∷ g.word k.Number n ∷ g.mark k.Comma ∷ g.term t ∷ g.mark k.RightParen ∷ p)
+    → Tells (unary c ∷ s) (w ∷ ws) (g.unary (win name n t) ∷ p)
 by_win {w = w} {ws = ws} e tells _ (fits_unary {f = g} {p = q} f) d =
     let u = unary_of w ws g q k.Win e d in
     let same = u.3 in
     let h = tells _ (fits_mark (fits_game (fits_mark (fits_moves (fits_mark (fits_term (fits_mark f))))))) u.4 in cc
 
 pub by_named_atom : {c : Place} {n : Text} {ts : WrittenTerms} {r : Option Comparison} {h : WrittenFormula} {s : Stack} {p : List Part} {w : Word} {ws : List Word}
-    → w.kind ≡ k.Name → w.text ≡ n → h ≡ named_atom n ts r → Tells (arguments (of_name n) c ∷ name_tail n c ∷ s) ws (g.arguments ts ∷ g.name_tail r ∷ p)
+    → w.kind ≡ k.Name → w.text ≡ n → h ≡ named_atom n ts r
+    → Tells (arguments (of_name n) c ∷ name_tail n c ∷ s) ws (g.arguments ts ∷ g.name_tail r ∷ p)
     → Tells (unary c ∷ s) (w ∷ ws) (g.unary h ∷ p)
 by_named_atom {w = w} {ws = ws} e x y tells _ (fits_unary {f = g} {p = q} f) d =
     let u = unary_of w ws g q k.Name e d in
@@ -211,7 +219,8 @@ by_variable_atom {w = w} {ws = ws} e x y tells _ (fits_unary {f = g} {p = q} f) 
     let h = tells _ (fits_comparison f) u.2 in cc
 
 pub by_further_atom : {c : Place} {n : Text} {ts : WrittenTerms} {r : Comparison} {h : WrittenFormula} {s : Stack} {p : List Part} {w : Word} {ws : List Word}
-    → w.kind ≡ k.Further → w.text ≡ n → h ≡ compared (further n ts) r → Tells (arguments of_further c ∷ comparison c ∷ s) ws (g.arguments ts ∷ g.comparison r ∷ p)
+    → w.kind ≡ k.Further → w.text ≡ n → h ≡ compared (further n ts) r
+    → Tells (arguments of_further c ∷ comparison c ∷ s) ws (g.arguments ts ∷ g.comparison r ∷ p)
     → Tells (unary c ∷ s) (w ∷ ws) (g.unary h ∷ p)
 by_further_atom {w = w} {ws = ws} e x y tells _ (fits_unary {f = g} {p = q} f) d =
     let u = unary_of w ws g q k.Further e d in
@@ -232,4 +241,3 @@ pub by_next_variable : {c : Place} {x : Text} {xs : List Text} {s : Stack} {p : 
     → Tells (more_quantified c ∷ s) (w ∷ ws) (g.variables (x ∷ xs) ∷ p)
 by_next_variable e x tells _ (fits_more_quantified f) (g.no_variables d) = let first = (mark_first d).is in absurd (cc (e, first))
 by_next_variable e x tells _ (fits_more_quantified f) (g.next_variable (g.is_word e' y d)) = let h = tells _ (fits_more_quantified f) d in cc
-

@@ -1,13 +1,12 @@
 -- Two readings of a comparison or of a term are one, where the readings of their parts are.
-use Rattle.std.proofs.Common.{◌≡◌, ℕ, List, [], ◌∷◌, Option, Some, None, refl, sym, ◌∙◌, ap, subst}
-use Rattle.formula_ast.specs.declared.token.TokenKind.{TokenKind}
+use Rattle.std.proofs.Common.{◌≡◌, ℕ, List, ◌∷◌, Some, None, ap}
 use Rattle.formula_ast.specs.declared.token.TokenKind.TheVariants as k
 use Rattle.formula_ast.specs.Tokens.{Word}
-use Rattle.formula_grammar.specs.Written.{Text, WrittenTerm, variable, named, further, WrittenTerms, no_terms, one_more, WrittenFormula, truth, falsity, finite, win, no, exists, forall, group, Declaration, WrittenStatement, symbols, predicate, solve, Comparison, equals, differs, compared, all_of, some_of, implied, equated, named_atom}
+use Rattle.formula_grammar.specs.Written.{Text, WrittenTerm, variable, named, further, WrittenTerms, no_terms, one_more, Comparison, equals, differs}
 use Rattle.formula_grammar.specs.Grammar as g
 use Rattle.formula_grammar.specs.Grammar.{Part, Derives}
-use Rattle.formula_grammar.specs.Machine.{Place, Head, of_name, of_further, Symbol, mark, file, declared_name, arity, declarations, predicate_name, header, parameter, more_parameters, defined, predicate_end, formula, iff_tail, implication, imp_tail, disjunction, or_tail, conjunction, and_tail, unary, quantified, more_quantified, opening, game, moves, name_tail, comparison, term, arguments, more_arguments, Stack, step}
-use Rattle.formula_grammar.proofs.Fits.{Fits, nothing, fits_mark, fits_file, fits_declared_name, fits_arity, fits_declarations, fits_predicate_name, fits_header, fits_parameter, fits_more_parameters, fits_defined, fits_predicate_end, fits_formula, fits_iff_tail, fits_implication, fits_imp_tail, fits_disjunction, fits_or_tail, fits_conjunction, fits_and_tail, fits_unary, fits_quantified, fits_more_quantified, fits_opening, fits_game, fits_moves, fits_name_tail, fits_comparison, fits_term, fits_arguments, fits_more_arguments, Refuses, Well, BehindUnary}
+use Rattle.formula_grammar.specs.Machine.{Place, Head, mark, name_tail, comparison, term, arguments, more_arguments, Stack}
+use Rattle.formula_grammar.proofs.Fits.{Fits, fits_mark, fits_name_tail, fits_comparison, fits_term, fits_arguments, fits_more_arguments, Well, BehindUnary}
 use Rattle.formula_grammar.proofs.UniqueWords.{Tells, not_next}
 
 -- ---- what follows a name and its arguments

@@ -1,13 +1,13 @@
 -- Two readings by the same symbols are one: what a reading of a rule's parts tells of every other, so does one of the rule.
-use Rattle.std.proofs.Common.{◌≡◌, ℕ, List, [], ◌∷◌, Option, Some, None, refl, sym, ◌∙◌, ap, subst}
+use Rattle.std.proofs.Common.{◌≡◌, ℕ, List, [], ◌∷◌, ◌∙◌, ap, subst}
 use Rattle.formula_ast.specs.declared.token.TokenKind.{TokenKind}
 use Rattle.formula_ast.specs.declared.token.TokenKind.TheVariants as k
 use Rattle.formula_ast.specs.Tokens.{Word}
-use Rattle.formula_grammar.specs.Written.{Text, WrittenTerm, variable, named, further, WrittenTerms, no_terms, one_more, WrittenFormula, truth, falsity, finite, win, no, exists, forall, group, Declaration, WrittenStatement, symbols, predicate, solve, Comparison, equals, differs, compared, all_of, some_of, implied, equated, named_atom}
+use Rattle.formula_grammar.specs.Written.{Text, WrittenFormula, Declaration, WrittenStatement, symbols, predicate, solve}
 use Rattle.formula_grammar.specs.Grammar as g
 use Rattle.formula_grammar.specs.Grammar.{Part, Derives}
-use Rattle.formula_grammar.specs.Machine.{Place, Head, of_name, of_further, Symbol, mark, file, declared_name, arity, declarations, predicate_name, header, parameter, more_parameters, defined, predicate_end, formula, iff_tail, implication, imp_tail, disjunction, or_tail, conjunction, and_tail, unary, quantified, more_quantified, opening, game, moves, name_tail, comparison, term, arguments, more_arguments, Stack, step}
-use Rattle.formula_grammar.proofs.Fits.{Fits, nothing, fits_mark, fits_file, fits_declared_name, fits_arity, fits_declarations, fits_predicate_name, fits_header, fits_parameter, fits_more_parameters, fits_defined, fits_predicate_end, fits_formula, fits_iff_tail, fits_implication, fits_imp_tail, fits_disjunction, fits_or_tail, fits_conjunction, fits_and_tail, fits_unary, fits_quantified, fits_more_quantified, fits_opening, fits_game, fits_moves, fits_name_tail, fits_comparison, fits_term, fits_arguments, fits_more_arguments, Refuses, Well, BehindUnary}
+use Rattle.formula_grammar.specs.Machine.{Place, mark, file, declared_name, arity, declarations, predicate_name, header, parameter, more_parameters, defined, predicate_end, formula, quantified, more_quantified, opening, game, moves, Stack, step}
+use Rattle.formula_grammar.proofs.Fits.{Fits, fits_mark, fits_file, fits_declared_name, fits_arity, fits_declarations, fits_predicate_name, fits_header, fits_parameter, fits_more_parameters, fits_defined, fits_predicate_end, fits_formula, fits_quantified, fits_more_quantified, fits_opening, fits_game, fits_moves, Refuses, Well}
 use Rattle.formula_grammar.proofs.Complete.{Goes, complete, of_kind, mark_first}
 
 -- the parts of every reading of these words by these symbols are those
@@ -93,7 +93,8 @@ same_symbols d e h =
 
 pub by_symbols : {d : Declaration} {ds : List Declaration} {more : List WrittenStatement} {s : Stack} {p : List Part} {w : Word} {ws : List Word}
     → w.kind ≡ k.Symbol → Well (file ∷ s)
-    → Tells (declared_name ∷ declarations ∷ mark k.Stop ∷ file ∷ s) ws (g.word k.Name d.name ∷ g.mark k.Slash ∷ g.word k.Number d.digits ∷ g.declarations ds ∷ g.mark k.Stop ∷ g.file more ∷ p)
+    → Tells (declared_name ∷ declarations ∷ mark k.Stop ∷ file ∷ s) ws
+    (g.word k.Name d.name ∷ g.mark k.Slash ∷ g.word k.Number d.digits ∷ g.declarations ds ∷ g.mark k.Stop ∷ g.file more ∷ p)
     → Tells (file ∷ s) (w ∷ ws) (g.file (symbols (d ∷ ds) ∷ more) ∷ p)
 by_symbols e a tells _ (fits_file f) (g.file_end d) = absurd (not_next k.Symbol d f a.1 a.0.symbols e)
 by_symbols {d = x} e a tells _ (fits_file f) (g.file_symbols {d = y} (g.is_mark e' d)) =

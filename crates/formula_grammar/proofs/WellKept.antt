@@ -1,9 +1,8 @@
 -- The machine keeps the shape of what may come.
-use Rattle.std.proofs.Common.{◌≡◌, ℕ, suc, Bool, true, false, List, [], ◌∷◌, ◌++◌, refl, if◌then◌else◌}
-use Rattle.formula_ast.specs.declared.token.TokenKind.{TokenKind}
+use Rattle.std.proofs.Common.{Bool, true, false, List, [], ◌∷◌, refl, if◌then◌else◌}
 use Rattle.formula_ast.specs.declared.token.TokenKind.TheVariants as k
 use Rattle.formula_ast.specs.Tokens.{Word}
-use Rattle.formula_grammar.specs.Machine.{Place, deeper, binding, open_place, closed_place, Head, of_name, of_further, Symbol, mark, file, declared_name, arity, declarations, predicate_name, header, parameter, more_parameters, defined, predicate_end, formula, iff_tail, implication, imp_tail, disjunction, or_tail, conjunction, and_tail, unary, quantified, more_quantified, opening, game, moves, name_tail, comparison, term, arguments, more_arguments, Stack, Role, Move, refused, goes, adds, step, unary_step, atom_step, term_step, same}
+use Rattle.formula_grammar.specs.Machine.{Place, mark, file, declared_name, arity, declarations, predicate_name, header, parameter, more_parameters, defined, predicate_end, formula, iff_tail, implication, imp_tail, disjunction, or_tail, conjunction, and_tail, unary, quantified, more_quantified, opening, game, moves, name_tail, comparison, term, arguments, more_arguments, Stack, Role, Move, refused, goes, adds, step, unary_step, atom_step, term_step, same}
 use Rattle.formula_grammar.proofs.Fits.{Well, behind_iff_tail, behind_imp_tail, behind_or_tail, behind_and_tail, behind_name_tail, behind_comparison, behind_argument, term_closed, arguments_closed, formula_closed, formula_stopped, body_stopped}
 
 pub data Keeps : Move → Type 0 where

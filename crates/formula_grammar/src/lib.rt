@@ -6,3 +6,6 @@ mod laws;
 
 pub use fault::{Fault, FaultKind};
 pub use laws::{at_most_one_reading, faults_stand_right};
+
+#[cfg(test)]
+mod tests;
