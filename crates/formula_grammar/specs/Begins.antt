@@ -1,5 +1,5 @@
 -- What the grammar alone says of where a text stops being a front of a file or of a formula.
-use Rattle.std.specs.Prelude.{◌≡◌, ℕ, List, [], ◌∷◌, ◌++◌, Some}
+use Rattle.std.specs.Prelude.{◌≡◌, ℕ, List, [], ◌∷◌, ◌++◌}
 use Rattle.formula_ast.specs.declared.token.Token.{Token}
 use Rattle.formula_ast.specs.Tokens.{Stream, end, bad, token, Word, word_of}
 use Rattle.formula_grammar.specs.declared.fault.Fault.{Fault}

@@ -1,5 +1,5 @@
 -- What is wrong with a word that the grammar allows: the faults that look at declarations, and the limits.
-use Rattle.std.specs.Prelude.{ℕ, suc, ◌+◌, ◌-◌, ◌*◌, Bool, true, false, not, ◌&&◌, List, [], ◌∷◌, ◌++◌, length, drop, filter, Option, Some, None, option_and_then, if◌then◌else◌, nat_lt, nat_le, nat_eq}
+use Rattle.std.specs.Prelude.{ℕ, suc, ◌+◌, ◌-◌, ◌*◌, Bool, true, false, not, ◌&&◌, List, [], ◌∷◌, ◌++◌, length, drop, Option, Some, None, option_and_then, if◌then◌else◌, nat_lt, nat_le, nat_eq}
 use Rattle.std.specs.Str.{bytes_eq}
 use Rattle.std.specs.List.{list_any}
 use Rattle.tree_model.specs.declared.kind.Kind.{Kind}
@@ -9,7 +9,7 @@ use Rattle.signature.specs.Names.{place_of}
 use Rattle.formula_grammar.specs.declared.fault.FaultKind.{FaultKind}
 use Rattle.formula_grammar.specs.declared.fault.FaultKind.TheVariants.{Byte, Ended, Syntax, Unknown, Twice, Loose, Arity, Sort, Limit, NotBuilt}
 use Rattle.formula_grammar.specs.Written.{Text}
-use Rattle.formula_grammar.specs.Machine.{Place, Head, of_name, of_further, Role, begins, opens, declares, has_arity, declares_predicate, has_parameter, ends_predicate, joins, binds, stands, heads_term, begins_atom, is_further, opens_arguments, no_arguments, separates, closes, compares, stands_alone, plays, counts}
+use Rattle.formula_grammar.specs.Machine.{of_name, of_further, Role, begins, opens, declares, has_arity, declares_predicate, has_parameter, ends_predicate, joins, binds, stands, heads_term, begins_atom, is_further, opens_arguments, no_arguments, separates, closes, compares, stands_alone, plays, counts}
 
 -- what the words so far have declared, and how many `&`, `|` and variables in quantifiers' lists the statement has so far
 pub record Environment : Type 0 where

@@ -1,7 +1,6 @@
 -- The first fault of an input.
-use Rattle.std.specs.Prelude.{ℕ, List, [], ◌∷◌, length, Bool, Option, Some, None, if◌then◌else◌, nat_lt}
-use Rattle.formula_ast.specs.declared.token.Token.{Token}
-use Rattle.formula_ast.specs.Tokens.{Stream, end, bad, token, tokens_at, Word, word_of}
+use Rattle.std.specs.Prelude.{ℕ, List, [], ◌∷◌, length, Option, Some, None, if◌then◌else◌, nat_lt}
+use Rattle.formula_ast.specs.Tokens.{Stream, end, bad, token, tokens_at, word_of}
 use Rattle.tree_model.specs.Signatures.{Signature}
 use Rattle.formula_grammar.specs.declared.fault.Fault.{Fault}
 use Rattle.formula_grammar.specs.declared.fault.FaultKind.{FaultKind}

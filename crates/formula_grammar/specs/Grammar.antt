@@ -1,5 +1,5 @@
 -- The grammar, with one constructor for each rule.
-use Rattle.std.specs.Prelude.{◌≡◌, List, [], ◌∷◌, ◌++◌, Option, Some, None}
+use Rattle.std.specs.Prelude.{◌≡◌, List, [], ◌∷◌, Option, Some, None}
 use Rattle.formula_ast.specs.declared.token.TokenKind.{TokenKind}
 use Rattle.formula_ast.specs.declared.token.TokenKind.TheVariants as k
 use Rattle.formula_ast.specs.Tokens.{Word}
@@ -50,7 +50,6 @@ pub data Derives : List Part → List Word → Type 0 where
       → w.kind ≡ kind → Derives s ws → Derives (mark kind ∷ s) (w ∷ ws)
   is_word : {w : Word} {kind : TokenKind} {text : Text} {s : List Part} {ws : List Word}
       → w.kind ≡ kind → w.text ≡ text → Derives s ws → Derives (word kind text ∷ s) (w ∷ ws)
-
   -- statements
   file_end : {s : List Part} {ws : List Word} → Derives s ws → Derives (file [] ∷ s) ws
   file_symbols : {d : Declaration} {ds : List Declaration} {more : List WrittenStatement} {s : List Part} {ws : List Word}
@@ -72,7 +71,6 @@ pub data Derives : List Part → List Word → Type 0 where
   last_parameter : {s : List Part} {ws : List Word} → Derives s ws → Derives (more_parameters [] ∷ s) ws
   next_parameter : {x : Text} {xs : List Text} {s : List Part} {ws : List Word}
       → Derives (mark k.Comma ∷ word k.Variable x ∷ more_parameters xs ∷ s) ws → Derives (more_parameters (x ∷ xs) ∷ s) ws
-
   -- operators
   is_formula : {f h : WrittenFormula} {g : Option WrittenFormula} {s : List Part} {ws : List Word}
       → h ≡ equated f g → Derives (implication f ∷ iff_tail g ∷ s) ws → Derives (formula h ∷ s) ws
@@ -107,7 +105,6 @@ pub data Derives : List Part → List Word → Type 0 where
       → Derives (word k.Variable x ∷ variables xs ∷ s) ws → Derives (variables (x ∷ xs) ∷ s) ws
   is_group : {f : WrittenFormula} {s : List Part} {ws : List Word}
       → Derives (mark k.LeftParen ∷ formula f ∷ mark k.RightParen ∷ s) ws → Derives (unary (group f) ∷ s) ws
-
   -- atoms
   is_true : {s : List Part} {ws : List Word} → Derives (mark k.«True» ∷ s) ws → Derives (unary truth ∷ s) ws
   is_false : {s : List Part} {ws : List Word} → Derives (mark k.«False» ∷ s) ws → Derives (unary falsity ∷ s) ws
@@ -128,7 +125,6 @@ pub data Derives : List Part → List Word → Type 0 where
       → Derives (mark k.Equal ∷ term t ∷ s) ws → Derives (comparison (equals t) ∷ s) ws
   is_differ : {t : WrittenTerm} {s : List Part} {ws : List Word}
       → Derives (mark k.Differ ∷ term t ∷ s) ws → Derives (comparison (differs t) ∷ s) ws
-
   -- terms
   is_variable : {x : Text} {s : List Part} {ws : List Word} → Derives (word k.Variable x ∷ s) ws → Derives (term (variable x) ∷ s) ws
   is_named : {f : Text} {ts : WrittenTerms} {s : List Part} {ws : List Word}

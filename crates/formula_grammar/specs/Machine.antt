@@ -138,7 +138,7 @@ atom_step c s w =
     else (if same w.kind k.«False» then goes [] s
     else (if same w.kind k.Finite then goes [] (opening (suc c.depth) ∷ term (deeper c) ∷ mark k.RightParen ∷ s)
     else (if same w.kind k.Win then goes []
-        (opening (suc c.depth) ∷ game ∷ mark k.Comma ∷ moves ∷ mark k.Comma ∷ term (deeper c) ∷ mark k.RightParen ∷ s)
+    (opening (suc c.depth) ∷ game ∷ mark k.Comma ∷ moves ∷ mark k.Comma ∷ term (deeper c) ∷ mark k.RightParen ∷ s)
     else (if same w.kind k.Name then goes (begins_atom w.text ∷ []) (arguments (of_name w.text) c ∷ name_tail w.text c ∷ s)
     else (if same w.kind k.Variable then goes (stands w.text c ∷ []) (comparison c ∷ s)
     else (if same w.kind k.Further then goes (is_further w.text ∷ []) (arguments of_further c ∷ comparison c ∷ s)
@@ -204,7 +204,7 @@ step (comparison c ∷ s) w =
 step (term c ∷ s) w = term_step c s w
 step (arguments h c ∷ s) w =
     if same w.kind k.LeftParen then goes (opens_arguments h ∷ opens (suc c.depth) ∷ [])
-        (term (deeper c) ∷ more_arguments h 1 (deeper c) ∷ mark k.RightParen ∷ s)
+    (term (deeper c) ∷ more_arguments h 1 (deeper c) ∷ mark k.RightParen ∷ s)
     else adds (no_arguments h) (step s w)
 step (more_arguments h n c ∷ s) w =
     if same w.kind k.Comma then goes (separates h n ∷ []) (term c ∷ more_arguments h (suc n) c ∷ s)
