@@ -21,3 +21,6 @@ pub mod UniqueTerms
 pub mod UniqueWords
 pub mod Walks
 pub mod WellKept
+pub mod Lengths
+pub mod Behind
+pub mod Outcomes

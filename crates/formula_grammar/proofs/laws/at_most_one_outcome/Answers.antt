@@ -1,10 +1,5 @@
+use Rattle.formula_grammar.proofs.Outcomes.{never_both, one_fault, never_both_of_formula}
 use Rattle.formula_grammar.proofs.laws.at_most_one_outcome.Goals as goal
 
-pub returns-clause-never_both : goal.returns-clause-never_both
-returns-clause-never_both c = ?
-
-pub returns-clause-one_fault : goal.returns-clause-one_fault
-returns-clause-one_fault c = ?
-
-pub returns-clause-formulas : goal.returns-clause-formulas
-returns-clause-formulas c = ?
+pub returns : goal.returns
+returns c = record { never_both = never_both; one_fault = one_fault; formulas = never_both_of_formula }
