@@ -1,5 +1,5 @@
 -- Which written statements are lawful: names are used as they are declared, and no limit is passed.
-use Rattle.std.specs.Prelude.{◌≡◌, ℕ, suc, ◌+◌, ◌≤◌, ◌<◌, max, Bool, true, false, ◌&&◌, List, [], ◌∷◌, ◌++◌, length, map, All, None, Some, slice_get}
+use Rattle.std.specs.Prelude.{◌≡◌, ℕ, suc, ◌+◌, ◌≤◌, ◌<◌, max, Bool, true, ◌&&◌, List, [], ◌∷◌, ◌++◌, length, map, All, None, Some, slice_get}
 use Rattle.tree_model.specs.declared.kind.Kind.TheVariants as kind
 use Rattle.tree_model.specs.Signatures.{Signature, Entry}
 use Rattle.formula_grammar.specs.Written.{Text, WrittenTerm, variable, named, further, WrittenTerms, no_terms, one_more, WrittenFormula, truth, falsity, finite, win, equal, differ, call, no, exists, forall, group, and, or, imp, iff, Declaration, WrittenStatement, symbols, predicate, solve}

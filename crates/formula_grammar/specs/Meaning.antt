@@ -13,7 +13,7 @@ use Rattle.formula_ast.specs.declared.file.File.{File}
 use Rattle.formula_ast.specs.Forms as form
 use Rattle.formula_ast.specs.Forms.{Form, form_of}
 use Rattle.formula_ast.specs.Terms.{list_of}
-use Rattle.formula_grammar.specs.Written.{Text, WrittenTerm, variable, named, further, WrittenTerms, no_terms, one_more, WrittenFormula, truth, falsity, finite, win, equal, differ, call, no, exists, forall, group, and, or, imp, iff, Declaration, WrittenStatement, symbols, predicate, solve}
+use Rattle.formula_grammar.specs.Written.{Text, WrittenTerm, variable, named, further, WrittenTerms, no_terms, one_more, WrittenFormula, truth, falsity, finite, win, equal, differ, call, no, exists, forall, group, and, or, imp, iff, WrittenStatement, symbols, predicate, solve}
 use Rattle.formula_grammar.specs.Checks.{value_of, index_of, is_among}
 use Rattle.formula_grammar.specs.Lawful.{declared_by}
 

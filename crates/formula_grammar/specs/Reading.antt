@@ -10,7 +10,7 @@ use Rattle.formula_grammar.specs.declared.fault.FaultKind.TheVariants.{NotBuilt}
 use Rattle.formula_grammar.specs.Written.{WrittenFormula, equal, exists, group, and, WrittenStatement, symbols, predicate, solve}
 use Rattle.formula_grammar.specs.Grammar as grammar
 use Rattle.formula_grammar.specs.Begins.{BeginsWith}
-use Rattle.formula_grammar.specs.FirstFault.{file_fault, formula_fault, most_bytes}
+use Rattle.formula_grammar.specs.FirstFault.{file_fault, most_bytes}
 use Rattle.formula_grammar.specs.Lawful.{is_bound, MayAsk, AreLawful}
 use Rattle.formula_grammar.specs.Meaning.{IsStatement, Makes}
 use Rattle.formula_grammar.specs.declared.shape.Shape.{Shape}
