@@ -1,11 +1,11 @@
 -- Which parts the machine's symbols stand for, and what is checked at them.
-use Rattle.std.proofs.Common.{◌≡◌, ℕ, Bool, true, false, List, [], ◌∷◌, ◌++◌, Option}
+use Rattle.std.proofs.Common.{◌≡◌, ℕ, true, false, List, [], ◌∷◌, Option}
 use Rattle.formula_ast.specs.declared.token.TokenKind.{TokenKind}
 use Rattle.formula_ast.specs.declared.token.TokenKind.TheVariants as k
 use Rattle.formula_grammar.specs.Written.{Text, WrittenTerm, WrittenTerms, WrittenFormula, WrittenStatement, Declaration, Comparison}
 use Rattle.formula_grammar.specs.Grammar as g
 use Rattle.formula_grammar.specs.Grammar.{Part}
-use Rattle.formula_grammar.specs.Machine.{Place, Head, Symbol, mark, file, declarations, more_parameters, defined, predicate_end, formula, iff_tail, implication, imp_tail, disjunction, or_tail, conjunction, and_tail, unary, more_quantified, name_tail, comparison, term, arguments, more_arguments, Stack, ends_predicate}
+use Rattle.formula_grammar.specs.Machine.{Place, Head, mark, file, declarations, more_parameters, defined, predicate_end, formula, iff_tail, implication, imp_tail, disjunction, or_tail, conjunction, and_tail, unary, more_quantified, name_tail, comparison, term, arguments, more_arguments, Stack, ends_predicate}
 use Rattle.formula_grammar.proofs.Starts.{can_start}
 use Rattle.formula_grammar.proofs.Checked.{Later, in_role, checks_term, checks_arguments, checks_more, checks_bound, bind_all, checks_formula, checks_joined, checks_implied, checks_equated, checks_right, checks_tail, checks_declarations, checks_parameters, checks_body, checks_file}
 
@@ -45,7 +45,7 @@ pub data Awaits : Stack → List Part → Later → Type 0 where
   awaits_parameters : {name : Text} {before xs : List Text} {f : WrittenFormula} {s : Stack} {p : List Part} {later : Later}
       → Awaits s p later
       → Awaits (more_parameters name before ∷ s) (g.more_parameters xs ∷ g.mark k.RightParen ∷ g.mark k.Define ∷ g.formula f ∷ g.mark k.Stop ∷ p)
-          (checks_parameters before xs (checks_body name f later))
+      (checks_parameters before xs (checks_body name f later))
   awaits_close : {name : Text} {xs : List Text} {f : WrittenFormula} {s : Stack} {p : List Part} {later : Later}
       → Awaits s p later
       → Awaits (more_parameters name xs ∷ s) (g.mark k.RightParen ∷ g.mark k.Define ∷ g.formula f ∷ g.mark k.Stop ∷ p) (checks_body name f later xs)

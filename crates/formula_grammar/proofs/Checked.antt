@@ -1,5 +1,5 @@
 -- What is checked at the parts of a text, one after another, and then what is checked behind them.
-use Rattle.std.proofs.Common.{ℕ, suc, Bool, true, false, ◌&&◌, List, [], ◌∷◌, ◌++◌, length, Option, Some, None}
+use Rattle.std.proofs.Common.{ℕ, suc, Bool, ◌&&◌, List, [], ◌∷◌, ◌++◌, length, Option, Some, None}
 use Rattle.formula_grammar.specs.Written.{Text, WrittenTerm, variable, named, further, WrittenTerms, no_terms, one_more, WrittenFormula, truth, falsity, finite, win, equal, differ, call, no, exists, forall, group, and, or, imp, iff, Declaration, WrittenStatement, symbols, predicate, solve, Comparison, equals, differs}
 use Rattle.formula_grammar.specs.Machine.{Place, deeper, binding, open_place, closed_place, Head, of_name, of_further, Role, begins, opens, declares, has_arity, declares_predicate, has_parameter, ends_predicate, joins, binds, stands, heads_term, begins_atom, is_further, opens_arguments, no_arguments, separates, closes, compares, stands_alone, plays, counts}
 use Rattle.formula_grammar.specs.Checks.{Environment, update}

@@ -1,15 +1,10 @@
 -- A text that is written as a file or as a formula has no first fault exactly where it is lawful.
-use Rattle.std.proofs.Common.{◌≡◌, ◌↔◌, ℕ, ◌≤◌, true, false, List, [], ◌∷◌, length, Option, Some, None, refl, sym, ◌∙◌, ap, if◌then◌else◌, nat_lt, arith}
+use Rattle.std.proofs.Common.{◌≡◌, ◌↔◌, ℕ, ◌≤◌, true, List, [], ◌∷◌, length, None, refl, sym, ◌∙◌}
 use Rattle.std.proofs.lemmas.Bool.{le-ltb}
 use Rattle.tree_model.specs.Signatures.{Signature}
 use Rattle.formula_ast.specs.Tokens.{tokens_at, Word}
-use Rattle.formula_grammar.specs.declared.fault.Fault.{Fault}
-use Rattle.formula_grammar.specs.Written.{WrittenStatement, WrittenFormula}
-use Rattle.formula_grammar.specs.Grammar.{IsFile, IsFormula}
 use Rattle.formula_grammar.specs.Machine.{Stack, file, formula, open_place}
-use Rattle.formula_grammar.specs.Checks.{Environment}
 use Rattle.formula_grammar.specs.FirstFault.{fault_from, fault_of_text, file_fault, formula_fault, most_bytes}
-use Rattle.formula_grammar.specs.Lawful.{AreLawful, MayAsk}
 use Rattle.formula_grammar.specs.Reading.{IsWritten}
 use Rattle.formula_grammar.specs.ReadingLaws.{LawfulFilesAreFaultless, LawfulFormulasAreFaultless}
 use Rattle.formula_grammar.proofs.Passing.{passes, faultless}
@@ -43,5 +38,5 @@ unfolding formula_fault
 lawful_formulas σ bytes words f w d =
     let h = text_passes σ (formula open_place ∷ []) bytes words w in
     let p : passes (at_joints σ 0) (formula open_place ∷ []) words ≡ _ =
-          walk d (awaits_formula (((((refl, refl, refl), refl), refl), refl), refl) nothing) (at_joints σ 0) in
+    walk d (awaits_formula (((((refl, refl, refl), refl), refl), refl), refl) nothing) (at_joints σ 0) in
     (λ e. (asked_allowed σ f done (sym p ∙ h.0 e)).0, λ a. h.1 (p ∙ asked_granted σ f done a refl))

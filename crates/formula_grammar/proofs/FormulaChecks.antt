@@ -1,5 +1,5 @@
 -- What is checked at a formula holds exactly where the formula is lawful.
-use Rattle.std.proofs.Common.{◌≡◌, ℕ, suc, ◌+◌, ◌≤◌, ◌<◌, max, Bool, true, false, ◌&&◌, List, [], ◌∷◌, ◌++◌, length, All, Option, Some, None, refl, sym, ◌∙◌, ap, subst, arith, append_assoc, append-nil}
+use Rattle.std.proofs.Common.{◌≡◌, ℕ, suc, ◌+◌, ◌≤◌, ◌<◌, true, false, List, [], ◌∷◌, ◌++◌, length, All, Option, Some, None, refl, sym, ◌∙◌, ap, subst, arith, append_assoc, append-nil}
 use Rattle.std.specs.Cmp.Derive.{both_true}
 use Rattle.std.proofs.lemmas.List.Elements.{All-nil, All-cons, All-head, All-tail}
 use Rattle.tree_model.specs.declared.kind.Kind.{Kind}
@@ -8,10 +8,10 @@ use Rattle.tree_model.specs.Signatures.{Signature}
 use Rattle.formula_grammar.specs.Written.{Text, WrittenTerm, WrittenTerms, WrittenFormula, truth, falsity, finite, win, equal, differ, call, no, exists, forall, group, and, or, imp, iff}
 use Rattle.formula_grammar.specs.Machine.{Place, deeper, binding, of_name, opens, joins, binds, begins_atom, stands_alone, plays, counts}
 use Rattle.formula_grammar.specs.Checks.{Environment, declared, is_declared, is_declared_as, arity_in}
-use Rattle.formula_grammar.specs.Lawful.{count, UsesNames, is_bound, has_bound, IsShort, IsSmall, nesting, term_nesting, joints}
-use Rattle.formula_grammar.proofs.Checked.{Later, in_role, checks_term, checks_arguments, checks_left, checks_bound, bind_all, checks_formula}
-use Rattle.formula_grammar.proofs.Roles.{Allowed, allowed, granted}
-use Rattle.formula_grammar.proofs.TermChecks.{TermFits, ArgumentsFit, term_allowed, term_granted, arguments_allowed, arguments_granted, left_allowed, left_granted, true_both}
+use Rattle.formula_grammar.specs.Lawful.{count, UsesNames, is_bound, has_bound, IsShort, IsSmall, nesting, joints}
+use Rattle.formula_grammar.proofs.Checked.{Later, in_role, checks_term, checks_arguments, checks_bound, bind_all, checks_formula}
+use Rattle.formula_grammar.proofs.Roles.{allowed, granted}
+use Rattle.formula_grammar.proofs.TermChecks.{term_allowed, term_granted, arguments_allowed, arguments_granted, left_allowed, left_granted, true_both}
 
 -- the place with these variables bound
 abbrev pub placed : Place → List Text → Place
@@ -62,7 +62,7 @@ module _ (σ : Signature) where
   bound_granted (x ∷ xs) k j a n e =
       let fewer : j < 1000 = omega (arith, n) in
       granted (binds x) (checks_bound xs k) (at_joints j) (All-head IsShort x xs a, fewer)
-        (bound_granted xs k (suc j) (All-tail IsShort x xs a) (omega (arith, n)) (moved k (j + suc (length xs)) (suc j + length xs) (omega arith) e))
+      (bound_granted xs k (suc j) (All-tail IsShort x xs a) (omega (arith, n)) (moved k (j + suc (length xs)) (suc j + length xs) (omega arith) e))
 
   -- a quantifier's variables and body, in a nesting
   abbrev checks_body_of : Place → List Text → WrittenFormula → Later → Later
@@ -82,21 +82,22 @@ module _ (σ : Signature) where
       let b = bound_allowed xs (checks_formula (bind_all xs (deeper c)) f k) j n a.1 in
       let place : bind_all xs (deeper c) ≡ placed (deeper c) (c.bound ++ xs) = bind_is xs (deeper c) in
       let h = ih (placed (deeper c) (c.bound ++ xs)) k (j + length xs) a.0 b.1
-            (subst (λ x. checks_formula x f k (at_joints (j + length xs)) ≡ true) place b.2) in
-      ((h.0.0, h.0.1, (b.0, h.0.2), omega (arith, h.0.3), omega (arith, h.0.4)),
-        moved k (j + length xs + joints f) (j + (length xs + joints f)) (omega arith) h.1)
+      (subst (λ x. checks_formula x f k (at_joints (j + length xs)) ≡ true) place b.2) in (
+        (h.0.0, h.0.1, (b.0, h.0.2), omega (arith, h.0.3), omega (arith, h.0.4)),
+        moved k (j + length xs + joints f) (j + (length xs + joints f)) (omega arith) h.1,
+      )
 
   quantified_granted : (f : WrittenFormula) → BodyGranted f → (xs : List Text) → BodyGranted (exists xs f)
   quantified_granted f ih xs c k j a e =
       let d : suc c.depth ≤ 200 = omega (arith, a.3) in
       let place : bind_all xs (deeper c) ≡ placed (deeper c) (c.bound ++ xs) = bind_is xs (deeper c) in
       let inner : checks_formula (placed (deeper c) (c.bound ++ xs)) f k (at_joints (j + length xs)) ≡ true =
-            ih (placed (deeper c) (c.bound ++ xs)) k (j + length xs)
-              (a.0, a.1, a.2.1, omega (arith, a.3), omega (arith, a.4))
-              (moved k (j + (length xs + joints f)) (j + length xs + joints f) (omega arith) e) in
+      ih (placed (deeper c) (c.bound ++ xs)) k (j + length xs)
+      (a.0, a.1, a.2.1, omega (arith, a.3), omega (arith, a.4))
+      (moved k (j + (length xs + joints f)) (j + length xs + joints f) (omega arith) e) in
       granted (opens (suc c.depth)) (checks_body_of c xs f k) (at_joints j) d
-        (bound_granted xs (checks_formula (bind_all xs (deeper c)) f k) j a.2.0 (omega (arith, a.4))
-          (subst (λ x. checks_formula x f k (at_joints (j + length xs)) ≡ true) (sym place) inner))
+      (bound_granted xs (checks_formula (bind_all xs (deeper c)) f k) j a.2.0 (omega (arith, a.4))
+      (subst (λ x. checks_formula x f k (at_joints (j + length xs)) ≡ true) (sym place) inner))
 
   deeper_allowed : (f : WrittenFormula) → BodyAllowed f → BodyAllowed (no f)
   deeper_allowed f ih c k j d n e =
@@ -108,58 +109,61 @@ module _ (σ : Signature) where
   deeper_granted f ih c k j a e =
       let d : suc c.depth ≤ 200 = omega (arith, a.3) in
       granted (opens (suc c.depth)) (checks_formula (deeper c) f k) (at_joints j) d
-        (ih (deeper c) k j (a.0, a.1, a.2, omega (arith, a.3), a.4) e)
+      (ih (deeper c) k j (a.0, a.1, a.2, omega (arith, a.3), a.4) e)
 
   joined_allowed : (f g : WrittenFormula) → BodyAllowed f → BodyAllowed g → BodyAllowed (and f g)
   joined_allowed f g ihf ihg c k j d n e =
       let a = ihf c (in_role joins (checks_formula c g k)) j d n e in
       let b = allowed joins (checks_formula c g k) (at_joints (j + joints f)) a.1 in
-      let h = ihg c k (suc (j + joints f)) d b.0 b.1 in
-      (((a.0.0, h.0.0), (λ x. both_true (a.0.1 x) (h.0.1 x)), (a.0.2, h.0.2), omega (arith, a.0.3, h.0.3), omega (arith, h.0.4)),
-        moved k (suc (j + joints f) + joints g) (j + suc (joints f + joints g)) (omega arith) h.1)
+      let h = ihg c k (suc (j + joints f)) d b.0 b.1 in (
+        ((a.0.0, h.0.0), (λ x. both_true (a.0.1 x) (h.0.1 x)), (a.0.2, h.0.2), omega (arith, a.0.3, h.0.3), omega (arith, h.0.4)),
+        moved k (suc (j + joints f) + joints g) (j + suc (joints f + joints g)) (omega arith) h.1,
+      )
 
   joined_granted : (f g : WrittenFormula) → BodyGranted f → BodyGranted g → BodyGranted (and f g)
   joined_granted f g ihf ihg c k j a e =
       let fewer : j + joints f < 1000 = omega (arith, a.4) in
       ihf c (in_role joins (checks_formula c g k)) j
-        (a.0.0, (λ x. (true_both (is_bound c.bound f) (is_bound c.bound g) (a.1 x)).0), a.2.0, omega (arith, a.3), omega (arith, a.4))
-        (granted joins (checks_formula c g k) (at_joints (j + joints f)) fewer
-          (ihg c k (suc (j + joints f))
-            (a.0.1, (λ x. (true_both (is_bound c.bound f) (is_bound c.bound g) (a.1 x)).1), a.2.1, omega (arith, a.3), omega (arith, a.4))
-            (moved k (j + suc (joints f + joints g)) (suc (j + joints f) + joints g) (omega arith) e)))
+      (a.0.0, (λ x. (true_both (is_bound c.bound f) (is_bound c.bound g) (a.1 x)).0), a.2.0, omega (arith, a.3), omega (arith, a.4))
+      (granted joins (checks_formula c g k) (at_joints (j + joints f)) fewer
+      (ihg c k (suc (j + joints f))
+      (a.0.1, (λ x. (true_both (is_bound c.bound f) (is_bound c.bound g) (a.1 x)).1), a.2.1, omega (arith, a.3), omega (arith, a.4))
+      (moved k (j + suc (joints f + joints g)) (suc (j + joints f) + joints g) (omega arith) e)))
 
   implied_allowed : (f g : WrittenFormula) → BodyAllowed f → BodyAllowed g → BodyAllowed (imp f g)
   implied_allowed f g ihf ihg c k j d n e =
       let a = ihf c (in_role (opens (suc c.depth)) (checks_formula (deeper c) g k)) j d n e in
       let b = allowed (opens (suc c.depth)) (checks_formula (deeper c) g k) (at_joints (j + joints f)) a.1 in
-      let h = ihg (deeper c) k (j + joints f) b.0 a.0.4 b.1 in
-      (((a.0.0, h.0.0), (λ x. both_true (a.0.1 x) (h.0.1 x)), (a.0.2, h.0.2), omega (arith, a.0.3, h.0.3), omega (arith, h.0.4)),
-        moved k (j + joints f + joints g) (j + (joints f + joints g)) (omega arith) h.1)
+      let h = ihg (deeper c) k (j + joints f) b.0 a.0.4 b.1 in (
+        ((a.0.0, h.0.0), (λ x. both_true (a.0.1 x) (h.0.1 x)), (a.0.2, h.0.2), omega (arith, a.0.3, h.0.3), omega (arith, h.0.4)),
+        moved k (j + joints f + joints g) (j + (joints f + joints g)) (omega arith) h.1,
+      )
 
   implied_granted : (f g : WrittenFormula) → BodyGranted f → BodyGranted g → BodyGranted (imp f g)
   implied_granted f g ihf ihg c k j a e =
       let d : suc c.depth ≤ 200 = omega (arith, a.3) in
       ihf c (in_role (opens (suc c.depth)) (checks_formula (deeper c) g k)) j
-        (a.0.0, (λ x. (true_both (is_bound c.bound f) (is_bound c.bound g) (a.1 x)).0), a.2.0, omega (arith, a.3), omega (arith, a.4))
-        (granted (opens (suc c.depth)) (checks_formula (deeper c) g k) (at_joints (j + joints f)) d
-          (ihg (deeper c) k (j + joints f)
-            (a.0.1, (λ x. (true_both (is_bound c.bound f) (is_bound c.bound g) (a.1 x)).1), a.2.1, omega (arith, a.3), omega (arith, a.4))
-            (moved k (j + (joints f + joints g)) (j + joints f + joints g) (omega arith) e)))
+      (a.0.0, (λ x. (true_both (is_bound c.bound f) (is_bound c.bound g) (a.1 x)).0), a.2.0, omega (arith, a.3), omega (arith, a.4))
+      (granted (opens (suc c.depth)) (checks_formula (deeper c) g k) (at_joints (j + joints f)) d
+      (ihg (deeper c) k (j + joints f)
+      (a.0.1, (λ x. (true_both (is_bound c.bound f) (is_bound c.bound g) (a.1 x)).1), a.2.1, omega (arith, a.3), omega (arith, a.4))
+      (moved k (j + (joints f + joints g)) (j + joints f + joints g) (omega arith) e)))
 
   equated_allowed : (f g : WrittenFormula) → BodyAllowed f → BodyAllowed g → BodyAllowed (iff f g)
   equated_allowed f g ihf ihg c k j d n e =
       let a = ihf c (checks_formula c g k) j d n e in
-      let h = ihg c k (j + joints f) d a.0.4 a.1 in
-      (((a.0.0, h.0.0), (λ x. both_true (a.0.1 x) (h.0.1 x)), (a.0.2, h.0.2), omega (arith, a.0.3, h.0.3), omega (arith, h.0.4)),
-        moved k (j + joints f + joints g) (j + (joints f + joints g)) (omega arith) h.1)
+      let h = ihg c k (j + joints f) d a.0.4 a.1 in (
+        ((a.0.0, h.0.0), (λ x. both_true (a.0.1 x) (h.0.1 x)), (a.0.2, h.0.2), omega (arith, a.0.3, h.0.3), omega (arith, h.0.4)),
+        moved k (j + joints f + joints g) (j + (joints f + joints g)) (omega arith) h.1,
+      )
 
   equated_granted : (f g : WrittenFormula) → BodyGranted f → BodyGranted g → BodyGranted (iff f g)
   equated_granted f g ihf ihg c k j a e =
       ihf c (checks_formula c g k) j
-        (a.0.0, (λ x. (true_both (is_bound c.bound f) (is_bound c.bound g) (a.1 x)).0), a.2.0, omega (arith, a.3), omega (arith, a.4))
-        (ihg c k (j + joints f)
-          (a.0.1, (λ x. (true_both (is_bound c.bound f) (is_bound c.bound g) (a.1 x)).1), a.2.1, omega (arith, a.3), omega (arith, a.4))
-          (moved k (j + (joints f + joints g)) (j + joints f + joints g) (omega arith) e))
+      (a.0.0, (λ x. (true_both (is_bound c.bound f) (is_bound c.bound g) (a.1 x)).0), a.2.0, omega (arith, a.3), omega (arith, a.4))
+      (ihg c k (j + joints f)
+      (a.0.1, (λ x. (true_both (is_bound c.bound f) (is_bound c.bound g) (a.1 x)).1), a.2.1, omega (arith, a.3), omega (arith, a.4))
+      (moved k (j + (joints f + joints g)) (j + joints f + joints g) (omega arith) e))
 
   -- ---- atoms
 
@@ -179,7 +183,7 @@ module _ (σ : Signature) where
   finite_granted t c k j a e =
       let d : suc c.depth ≤ 200 = omega (arith, a.3) in
       granted (opens (suc c.depth)) (checks_term (deeper c) t k) (at_joints j) d
-        (term_granted (at_joints j) (deeper c) t k (a.0, a.1, a.2, omega (arith, a.3)) (moved k (j + 0) j (omega arith) e))
+      (term_granted (at_joints j) (deeper c) t k (a.0, a.1, a.2, omega (arith, a.3)) (moved k (j + 0) j (omega arith) e))
 
   win_allowed : (p digits : Text) (t : WrittenTerm) → BodyAllowed (win p digits t)
   win_allowed p digits t c k j d n e =
@@ -195,40 +199,42 @@ module _ (σ : Signature) where
       let third : Later = checks_term (deeper c) t k in
       let d : suc c.depth ≤ 200 = omega (arith, a.3) in
       granted (opens (suc c.depth)) (in_role (plays p) (in_role (counts digits) third)) (at_joints j) d
-        (granted (plays p) (in_role (counts digits) third) (at_joints j) (a.0.0, a.2.0)
-          (granted (counts digits) third (at_joints j) a.2.1
-            (term_granted (at_joints j) (deeper c) t k (a.0.1, a.1, a.2.2, omega (arith, a.3)) (moved k (j + 0) j (omega arith) e))))
+      (granted (plays p) (in_role (counts digits) third) (at_joints j) (a.0.0, a.2.0)
+      (granted (counts digits) third (at_joints j) a.2.1
+      (term_granted (at_joints j) (deeper c) t k (a.0.1, a.1, a.2.2, omega (arith, a.3)) (moved k (j + 0) j (omega arith) e))))
 
   equal_allowed : (t u : WrittenTerm) → BodyAllowed (equal t u)
   equal_allowed t u c k j d n e =
       let a = left_allowed (at_joints j) c t (checks_term c u k) d e in
-      let b = term_allowed (at_joints j) c u k d a.1 in
-      (((a.0.0, b.0.0), (λ x. both_true (a.0.1 x) (b.0.1 x)), (a.0.2, b.0.2), omega (arith, a.0.3, b.0.3), omega arith),
-        moved k j (j + 0) (omega arith) b.1)
+      let b = term_allowed (at_joints j) c u k d a.1 in (
+        ((a.0.0, b.0.0), (λ x. both_true (a.0.1 x) (b.0.1 x)), (a.0.2, b.0.2), omega (arith, a.0.3, b.0.3), omega arith),
+        moved k j (j + 0) (omega arith) b.1,
+      )
 
   equal_granted : (t u : WrittenTerm) → BodyGranted (equal t u)
   equal_granted t u c k j a e =
       left_granted (at_joints j) c t (checks_term c u k)
-        (a.0.0, (λ x. (true_both (has_bound c.bound t) (has_bound c.bound u) (a.1 x)).0), a.2.0, omega (arith, a.3))
-        (term_granted (at_joints j) c u k
-          (a.0.1, (λ x. (true_both (has_bound c.bound t) (has_bound c.bound u) (a.1 x)).1), a.2.1, omega (arith, a.3))
-          (moved k (j + 0) j (omega arith) e))
+      (a.0.0, (λ x. (true_both (has_bound c.bound t) (has_bound c.bound u) (a.1 x)).0), a.2.0, omega (arith, a.3))
+      (term_granted (at_joints j) c u k
+      (a.0.1, (λ x. (true_both (has_bound c.bound t) (has_bound c.bound u) (a.1 x)).1), a.2.1, omega (arith, a.3))
+      (moved k (j + 0) j (omega arith) e))
 
   call_allowed : (p : Text) (ts : WrittenTerms) → BodyAllowed (call p ts)
   call_allowed p ts c k j d n e =
       let a = allowed (begins_atom p) (checks_arguments (of_name p) c ts (in_role (stands_alone p) k)) (at_joints j) e in
       let b = arguments_allowed (at_joints j) (of_name p) c ts (in_role (stands_alone p) k) d a.1 in
-      let x = allowed (stands_alone p) k (at_joints j) b.2 in
-      (((is_predicate (declared σ p) (count ts) a.0.0 x.0 b.1, b.0.0), b.0.1, (a.0.1, b.0.2), b.0.3, omega arith),
-        moved k j (j + 0) (omega arith) x.1)
+      let x = allowed (stands_alone p) k (at_joints j) b.2 in (
+        ((is_predicate (declared σ p) (count ts) a.0.0 x.0 b.1, b.0.0), b.0.1, (a.0.1, b.0.2), b.0.3, omega arith),
+        moved k j (j + 0) (omega arith) x.1,
+      )
 
   call_granted : (p : Text) (ts : WrittenTerms) → BodyGranted (call p ts)
   call_granted p ts c k j a e =
       let o : Option (Kind × ℕ) = declared σ p in
       granted (begins_atom p) (checks_arguments (of_name p) c ts (in_role (stands_alone p) k)) (at_joints j)
-        (predicate_declared o (count ts) a.0.0, a.2.0)
-        (arguments_granted (at_joints j) (of_name p) c ts (in_role (stands_alone p) k) (predicate_arity o (count ts) a.0.0) (a.0.1, a.1, a.2.1, a.3)
-          (granted (stands_alone p) k (at_joints j) (predicate_sort o (count ts) a.0.0) (moved k (j + 0) j (omega arith) e)))
+      (predicate_declared o (count ts) a.0.0, a.2.0)
+      (arguments_granted (at_joints j) (of_name p) c ts (in_role (stands_alone p) k) (predicate_arity o (count ts) a.0.0) (a.0.1, a.1, a.2.1, a.3)
+      (granted (stands_alone p) k (at_joints j) (predicate_sort o (count ts) a.0.0) (moved k (j + 0) j (omega arith) e)))
 
   pub formula_allowed : (f : WrittenFormula) → BodyAllowed f
   formula_allowed truth = truth_allowed

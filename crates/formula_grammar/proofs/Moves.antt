@@ -1,10 +1,10 @@
 -- How the machine passes the words of each rule.
-use Rattle.std.proofs.Common.{◌≡◌, ℕ, suc, Bool, true, false, ◌&&◌, List, [], ◌∷◌, ◌++◌, length, refl, sym, ◌∙◌, ap, subst, if◌then◌else◌}
+use Rattle.std.proofs.Common.{◌≡◌, ℕ, suc, Bool, true, false, ◌&&◌, List, [], ◌∷◌, ◌++◌, length, refl, ◌∙◌, ap}
 use Rattle.formula_ast.specs.declared.token.TokenKind.{TokenKind}
 use Rattle.formula_ast.specs.declared.token.TokenKind.TheVariants as k
 use Rattle.formula_ast.specs.Tokens.{Word}
 use Rattle.formula_grammar.specs.Written.{Text}
-use Rattle.formula_grammar.specs.Machine.{Place, deeper, binding, open_place, closed_place, Head, of_name, of_further, Symbol, mark, file, declared_name, arity, declarations, predicate_name, header, parameter, more_parameters, defined, predicate_end, formula, iff_tail, implication, imp_tail, disjunction, or_tail, conjunction, and_tail, unary, quantified, more_quantified, opening, game, moves, name_tail, comparison, term, arguments, more_arguments, Stack, Role, begins, opens, declares, has_arity, declares_predicate, has_parameter, ends_predicate, joins, binds, stands, heads_term, begins_atom, is_further, opens_arguments, no_arguments, separates, closes, compares, stands_alone, plays, counts, step, at_end, same}
+use Rattle.formula_grammar.specs.Machine.{Place, deeper, binding, open_place, closed_place, Head, of_name, of_further, mark, file, declarations, more_parameters, defined, predicate_end, formula, iff_tail, implication, imp_tail, disjunction, or_tail, conjunction, and_tail, unary, more_quantified, name_tail, comparison, term, arguments, more_arguments, Stack, begins, opens, declares, has_arity, declares_predicate, has_parameter, ends_predicate, joins, binds, stands, heads_term, begins_atom, is_further, opens_arguments, no_arguments, separates, closes, compares, stands_alone, plays, counts, step, at_end}
 use Rattle.formula_grammar.specs.Checks.{Environment, update}
 use Rattle.formula_grammar.proofs.Starts.{kind_same, is_next}
 use Rattle.formula_grammar.proofs.Passing.{is_fine, passes, add_passes, add_end_passes}

@@ -1,10 +1,8 @@
 -- A text reads, or has one first fault.
 use Rattle.std.proofs.Common.{◌≡◌, ℕ, suc, List, [], ◌∷◌, ◌++◌, length, All, Option, Some, None, refl, sym, ◌∙◌, ap, subst, arith}
 use Rattle.std.proofs.lemmas.List.Elements.{All-head, All-tail}
-use Rattle.tree_model.specs.Signatures.{Signature}
 use Rattle.formula_ast.specs.declared.token.Token.{Token}
 use Rattle.formula_ast.specs.declared.file.File.{File}
-use Rattle.formula_ast.specs.declared.statement.Statement.{Statement}
 use Rattle.formula_ast.specs.Tokens.{Stream, end, bad, token, tokens_at, Word}
 use Rattle.formula_grammar.specs.declared.fault.Fault.{Fault}
 use Rattle.formula_grammar.specs.declared.fault.FaultKind.TheVariants.{NotBuilt}
@@ -12,8 +10,8 @@ use Rattle.formula_grammar.specs.Written.{WrittenStatement}
 use Rattle.formula_grammar.specs.Grammar as g
 use Rattle.formula_grammar.specs.Grammar.{IsFile}
 use Rattle.formula_grammar.specs.Begins.{BeginsWith}
-use Rattle.formula_grammar.specs.FirstFault.{file_fault, formula_fault}
-use Rattle.formula_grammar.specs.Reading.{IsWritten, IsBuilt, ReadsAs, StopsAt, IsFirstFault, found, not_built, ReadsAsFormula}
+use Rattle.formula_grammar.specs.FirstFault.{file_fault}
+use Rattle.formula_grammar.specs.Reading.{IsWritten, IsBuilt, ReadsAs, StopsAt, found, not_built}
 use Rattle.formula_grammar.specs.ReadingLaws.{NeverBoth, OneFault, NeverBothOfFormula}
 use Rattle.formula_grammar.proofs.Unique.{one_file_reading}
 use Rattle.formula_grammar.proofs.Faultless.{lawful_files, lawful_formulas}
@@ -89,19 +87,19 @@ module _ (bytes : List ℕ) where
   read_never_stops : {offset : ℕ} (file : File) → ReadsAs bytes file → StopsAt bytes offset → ⊥
   read_never_stops file r s =
       let same : r.statements ≡ (s.first ++ s.statement ∷ s.others) =
-            same_statements r.words (s.before ++ s.words) r.statements (s.first ++ s.statement ∷ s.others) r.written s.written r.grammar (whole s) in
+      same_statements r.words (s.before ++ s.words) r.statements (s.first ++ s.statement ∷ s.others) r.written s.written r.grammar (whole s) in
       s.not_built (built_within s.first s.statement s.others (subst (λ xs. All IsBuilt xs) same r.built))
 
   one_stop : {offset other : ℕ} → StopsAt bytes offset → StopsAt bytes other → offset ≡ other
   one_stop a b =
       let same : (a.first ++ a.statement ∷ a.others) ≡ (b.first ++ b.statement ∷ b.others) =
-            same_statements (a.before ++ a.words) (b.before ++ b.words) (a.first ++ a.statement ∷ a.others) (b.first ++ b.statement ∷ b.others)
-              a.written b.written (whole a) (whole b) in
+      same_statements (a.before ++ a.words) (b.before ++ b.words) (a.first ++ a.statement ∷ a.others) (b.first ++ b.statement ∷ b.others)
+      a.written b.written (whole a) (whole b) in
       let front : a.first ≡ b.first = one_front a.first b.first a.statement b.statement a.others b.others same a.built b.built a.not_built b.not_built in
       let long : length a.before ≡ length b.before =
-            length_is a.front ∙ ap (λ xs. parts_length (g.file xs ∷ [])) front ∙ sym (length_is b.front) in
+      length_is a.front ∙ ap (λ xs. parts_length (g.file xs ∷ [])) front ∙ sym (length_is b.front) in
       let place : token a.t a.more ≡ token b.t b.more =
-            same_place bytes (tokens_at bytes 0) a.before b.before (token a.t a.more) (token b.t b.more) a.place b.place long in
+      same_place bytes (tokens_at bytes 0) a.before b.before (token a.t a.more) (token b.t b.more) a.place b.place long in
       let same_token : a.t ≡ b.t = cc place in
       sym a.offset_is ∙ ap (λ (t : Token). t.from) same_token ∙ b.offset_is
 

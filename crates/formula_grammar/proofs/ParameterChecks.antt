@@ -1,5 +1,5 @@
 -- What is checked at the parameters of a predicate holds exactly where they are distinct, short and few.
-use Rattle.std.proofs.Common.{◌≡◌, ℕ, zero, suc, ◌+◌, ◌≤◌, ◌<◌, Bool, true, false, ◌||◌, List, [], ◌∷◌, ◌++◌, length, All, Option, Some, None, slice_get, bytes_eq, length-append, refl, sym, ◌∙◌, ap, subst, arith, append_assoc, append-nil}
+use Rattle.std.proofs.Common.{◌≡◌, ℕ, zero, suc, ◌+◌, ◌≤◌, ◌<◌, Bool, true, false, ◌||◌, List, [], ◌∷◌, ◌++◌, length, All, Some, slice_get, bytes_eq, length-append, refl, sym, ◌∙◌, ap, subst, arith, append_assoc, append-nil}
 use Rattle.std.proofs.lemmas.List.Elements.{All-nil, All-cons, All-head, All-tail}
 use Rattle.std.proofs.lemmas.List.Folds.{list_any-append}
 use Rattle.std.proofs.lemmas.Slice.Eq.{bytes_eq-Decides}
@@ -7,8 +7,8 @@ use Rattle.formula_grammar.specs.Written.{Text}
 use Rattle.formula_grammar.specs.Machine.{has_parameter}
 use Rattle.formula_grammar.specs.Checks.{Environment, is_among}
 use Rattle.formula_grammar.specs.Lawful.{IsShort, AreDistinct}
-use Rattle.formula_grammar.proofs.Checked.{Later, in_role, checks_parameters}
-use Rattle.formula_grammar.proofs.Roles.{Allowed, allowed, granted}
+use Rattle.formula_grammar.proofs.Checked.{Later, checks_parameters}
+use Rattle.formula_grammar.proofs.Roles.{allowed, granted}
 
 -- each of these is none of those before it
 abbrev AreNew : List Text → List Text → Type 0
@@ -54,11 +54,12 @@ new_distinct : (before xs : List Text) → AreDistinct xs → ((t : Text) (i : �
 new_distinct before [] d n = tt
 new_distinct before (x ∷ xs) d n =
     let other : (t : Text) (i : ℕ) → slice_get xs i ≡ Some t → (b : Bool) → bytes_eq x t ≡ b → b ≡ false =
-          λ t i e. elim [ true ↦ λ h. let same : x ≡ t = (bytes_eq-Decides x t).0 h in absurd (no_suc i (d t 0 (suc i) (ap (λ y. Some y) same) e)) | false ↦ λ h. refl ] in
-    (n x 0 refl,
-     new_distinct (before ++ x ∷ []) xs (λ t i j e h. let a : suc i ≡ suc j = d t (suc i) (suc j) e h in omega arith)
-       (λ t i e. among_more t before x
-          ∙ false_or_false (is_among t before) (is_among t (x ∷ [])) (n t (suc i) e) (false_or_false (bytes_eq x t) false (other t i e (bytes_eq x t) refl) refl)))
+    λ t i e. elim [ true ↦ λ h. let same : x ≡ t = (bytes_eq-Decides x t).0 h in absurd (no_suc i (d t 0 (suc i) (ap (λ y. Some y) same) e)) | false ↦ λ h. refl ] in (
+      n x 0 refl,
+      new_distinct (before ++ x ∷ []) xs (λ t i j e h. let a : suc i ≡ suc j = d t (suc i) (suc j) e h in omega arith)
+          (λ t i e. among_more t before x
+          ∙ false_or_false (is_among t before) (is_among t (x ∷ [])) (n t (suc i) e) (false_or_false (bytes_eq x t) false (other t i e (bytes_eq x t) refl) refl)),
+    )
 
 moved : (k : List Text → Later) (E : Environment) (xs ys : List Text) → xs ≡ ys → k xs E ≡ true → k ys E ≡ true
 moved k E xs ys e h = subst (λ xs. k xs E ≡ true) e h
@@ -70,9 +71,12 @@ module _ (E : Environment) (k : List Text → Later) where
   list_allowed before (x ∷ xs) n e =
       let a = allowed (has_parameter x before) (checks_parameters (before ++ x ∷ []) xs k) E e in
       let longer : length (before ++ x ∷ []) ≡ suc (length before) = grind (arith, length-append) in
-      let b = list_allowed (before ++ x ∷ []) xs (omega (arith, longer, a.0.2)) a.1 in
-      ((a.0.0, b.0), All-cons IsShort x xs a.0.1 b.1, omega (arith, longer, b.2),
-        moved k E ((before ++ x ∷ []) ++ xs) (before ++ x ∷ xs) (append_assoc before (x ∷ []) xs) b.3)
+      let b = list_allowed (before ++ x ∷ []) xs (omega (arith, longer, a.0.2)) a.1 in (
+        (a.0.0, b.0),
+        All-cons IsShort x xs a.0.1 b.1,
+        omega (arith, longer, b.2),
+        moved k E ((before ++ x ∷ []) ++ xs) (before ++ x ∷ xs) (append_assoc before (x ∷ []) xs) b.3,
+      )
 
   list_granted : (before xs : List Text) → AreNew before xs → All IsShort xs → length before + length xs ≤ 16 → k (before ++ xs) E ≡ true
       → checks_parameters before xs k E ≡ true
@@ -81,8 +85,8 @@ module _ (E : Environment) (k : List Text → Later) where
       let longer : length (before ++ x ∷ []) ≡ suc (length before) = grind (arith, length-append) in
       let fewer : length before < 16 = omega (arith, n) in
       granted (has_parameter x before) (checks_parameters (before ++ x ∷ []) xs k) E (a.0, All-head IsShort x xs b, fewer)
-        (list_granted (before ++ x ∷ []) xs a.1 (All-tail IsShort x xs b) (omega (arith, longer, n))
-          (moved k E (before ++ x ∷ xs) ((before ++ x ∷ []) ++ xs) (sym (append_assoc before (x ∷ []) xs)) e))
+      (list_granted (before ++ x ∷ []) xs a.1 (All-tail IsShort x xs b) (omega (arith, longer, n))
+      (moved k E (before ++ x ∷ xs) ((before ++ x ∷ []) ++ xs) (sym (append_assoc before (x ∷ []) xs)) e))
 
   pub parameters_allowed : (xs : List Text) → checks_parameters [] xs k E ≡ true
       → AreDistinct xs × All IsShort xs × (length xs ≤ 16) × (k xs E ≡ true)

@@ -1,14 +1,12 @@
 -- The machine's walk over words, and whether it finds no fault in them.
-use Rattle.std.proofs.Common.{◌≡◌, ◌↔◌, ℕ, Bool, true, false, ◌&&◌, List, [], ◌∷◌, Option, Some, None, is_none, nat_le, refl, sym, ◌∙◌, ap, subst, if◌then◌else◌}
+use Rattle.std.proofs.Common.{◌≡◌, ◌↔◌, ℕ, Bool, true, false, ◌&&◌, List, [], ◌∷◌, Option, Some, None, is_none, nat_le, refl, sym, ◌∙◌, ap, if◌then◌else◌}
 use Rattle.std.proofs.Math.Bool.{and-false}
-use Rattle.formula_ast.specs.declared.token.Token.{Token}
-use Rattle.formula_ast.specs.declared.token.TokenKind.{TokenKind}
 use Rattle.formula_ast.specs.Tokens.{Stream, end, bad, token, Word, word_of}
 use Rattle.formula_grammar.specs.declared.fault.Fault.{Fault}
 use Rattle.formula_grammar.specs.declared.fault.FaultKind.{FaultKind}
 use Rattle.formula_grammar.specs.Machine.{Stack, Role, Move, refused, goes, step, adds, at_end, adds_end}
 use Rattle.formula_grammar.specs.Checks.{Environment, check, check_all, update, update_all, sooner, rank}
-use Rattle.formula_grammar.specs.FirstFault.{fault_from, fault_at, judged, at_move, ended}
+use Rattle.formula_grammar.specs.FirstFault.{fault_from, judged, at_move, ended}
 use Rattle.formula_grammar.specs.Begins.{BeginsWith}
 
 -- nothing is wrong with a word in this role

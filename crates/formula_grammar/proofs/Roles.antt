@@ -1,13 +1,12 @@
 -- When nothing is wrong with a word in a role.
-use Rattle.std.proofs.Common.{◌≡◌, ◌↔◌, ℕ, suc, ◌+◌, ◌≤◌, ◌<◌, Bool, true, false, not, ◌&&◌, List, [], ◌∷◌, ◌++◌, length, Option, Some, None, is_none, nat_le, nat_lt, nat_eq, refl, sym, ◌∙◌, ap, subst, if◌then◌else◌, arith}
+use Rattle.std.proofs.Common.{◌≡◌, ℕ, ◌≤◌, ◌<◌, Bool, true, false, not, ◌&&◌, List, [], ◌∷◌, length, Option, Some, None, is_none, nat_le, nat_lt, nat_eq, refl, sym, ◌∙◌, ap, arith}
 use Rattle.std.proofs.lemmas.Bool.{leb-false, lt-leb, ltb-false, le-ltb}
 use Rattle.tree_model.specs.declared.kind.Kind.{Kind}
 use Rattle.tree_model.specs.declared.kind.Kind.TheVariants as kind
 use Rattle.formula_grammar.specs.declared.fault.FaultKind.{FaultKind}
 use Rattle.formula_grammar.specs.declared.fault.FaultKind.TheVariants.{Unknown, Twice, Loose, Arity, Sort, Limit}
-use Rattle.formula_grammar.specs.Written.{Text}
-use Rattle.formula_grammar.specs.Machine.{Place, Head, of_name, of_further, Role, begins, opens, declares, has_arity, declares_predicate, has_parameter, ends_predicate, joins, binds, stands, heads_term, begins_atom, is_further, opens_arguments, no_arguments, separates, closes, compares, stands_alone, plays, counts}
-use Rattle.formula_grammar.specs.Checks.{Environment, declared, is_declared, is_declared_as, arity_in, is_kind, count_of, is_long, is_among, first_of, check, update, value_of, index_of}
+use Rattle.formula_grammar.specs.Machine.{of_name, of_further, Role, begins, opens, declares, has_arity, declares_predicate, has_parameter, ends_predicate, joins, binds, stands, heads_term, begins_atom, is_further, opens_arguments, no_arguments, separates, closes, compares, stands_alone, plays, counts}
+use Rattle.formula_grammar.specs.Checks.{Environment, declared, is_declared, is_declared_as, arity_in, count_of, is_long, is_among, first_of, update, value_of, index_of}
 use Rattle.formula_grammar.specs.Lawful.{IsShort}
 use Rattle.formula_grammar.proofs.Passing.{is_fine}
 use Rattle.formula_grammar.proofs.Checked.{Later, in_role}

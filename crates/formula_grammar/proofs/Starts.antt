@@ -1,5 +1,5 @@
 -- With which kinds of words the parts of a text can begin.
-use Rattle.std.proofs.Common.{◌≡◌, Bool, true, false, ◌||◌, List, [], ◌∷◌, refl, sym, ◌∙◌, ap, subst, rules}
+use Rattle.std.proofs.Common.{◌≡◌, Bool, true, false, ◌||◌, List, [], ◌∷◌, refl, subst, rules}
 use Rattle.std.proofs.Math.Bool.{or-true}
 use denote.Enum.Bare.{same_true, true_same}
 use Rattle.formula_ast.specs.contracts.token.TokenKind.{the_type}

@@ -1,13 +1,13 @@
 -- What is checked at a term holds exactly where the term is lawful.
-use Rattle.std.proofs.Common.{◌≡◌, ℕ, suc, ◌+◌, ◌≤◌, ◌<◌, max, Bool, true, false, ◌&&◌, List, [], ◌∷◌, Option, Some, None, refl, sym, ◌∙◌, ap, subst, arith}
+use Rattle.std.proofs.Common.{◌≡◌, ℕ, suc, ◌+◌, ◌≤◌, Bool, true, false, ◌&&◌, Option, Some, None, refl, sym, ap, subst, arith}
 use Rattle.std.specs.Cmp.Derive.{both_true}
 use Rattle.tree_model.specs.declared.kind.Kind.{Kind}
 use Rattle.tree_model.specs.declared.kind.Kind.TheVariants as kind
 use Rattle.tree_model.specs.Signatures.{Signature}
-use Rattle.formula_grammar.specs.Written.{Text, WrittenTerm, variable, named, further, WrittenTerms, no_terms, one_more}
+use Rattle.formula_grammar.specs.Written.{WrittenTerm, variable, named, further, WrittenTerms, no_terms, one_more}
 use Rattle.formula_grammar.specs.Machine.{Place, deeper, Head, of_name, of_further, opens, stands, heads_term, begins_atom, is_further, opens_arguments, no_arguments, separates, closes, compares}
 use Rattle.formula_grammar.specs.Checks.{Environment, declared, is_declared, is_declared_as, arity_in}
-use Rattle.formula_grammar.specs.Lawful.{count, UsesSymbols, AllUseSymbols, has_bound, all_have_bound, IsShort, IsSmallTerm, AreSmallTerms, term_nesting, terms_nesting}
+use Rattle.formula_grammar.specs.Lawful.{count, UsesSymbols, AllUseSymbols, has_bound, all_have_bound, IsSmallTerm, AreSmallTerms, term_nesting, terms_nesting}
 use Rattle.formula_grammar.proofs.Checked.{Later, in_role, checks_term, checks_arguments, checks_more, checks_left}
 use Rattle.formula_grammar.proofs.Roles.{Allowed, allowed, granted}
 
@@ -140,10 +140,10 @@ module _ (E : Environment) where
     term_granted c (named f ts) k a e =
         let o : Option (Kind × ℕ) = declared E.signature f in
         granted (heads_term f) (checks_arguments (of_name f) c ts k) E (symbol_declared o (count ts) a.0.0, symbol_sort o (count ts) a.0.0, a.2.0)
-          (arguments_granted (of_name f) c ts k (symbol_arity o (count ts) a.0.0) (a.0.1, a.1, a.2.1, a.3) e)
+        (arguments_granted (of_name f) c ts k (symbol_arity o (count ts) a.0.0) (a.0.1, a.1, a.2.1, a.3) e)
     term_granted c (further i ts) k a e =
         granted (is_further i) (checks_arguments of_further c ts k) E a.2.0
-          (arguments_granted of_further c ts k a.2.1 (a.0, a.1, a.2.2, a.3) e)
+        (arguments_granted of_further c ts k a.2.1 (a.0, a.1, a.2.2, a.3) e)
 
     pub arguments_granted : (h : Head) (c : Place) (ts : WrittenTerms) (k : Later) → Takes E h (count ts) → ArgumentsFit E.signature c ts
         → k E ≡ true → checks_arguments h c ts k E ≡ true
@@ -152,9 +152,9 @@ module _ (E : Environment) where
         let more : Later = checks_more h 1 (deeper c) ts k in
         let d : suc c.depth ≤ 200 = omega (arith, a.3) in
         granted (opens_arguments h) (in_role (opens (suc c.depth)) (checks_term (deeper c) t more)) E (some_begin h (count ts) n)
-          (granted (opens (suc c.depth)) (checks_term (deeper c) t more) E d
-            (term_granted (deeper c) t more (first_fits c t ts a)
-              (more_granted h 1 c ts k (takes_same h (suc (count ts)) (1 + count ts) (omega arith) n) (others_fit c t ts a) e)))
+        (granted (opens (suc c.depth)) (checks_term (deeper c) t more) E d
+        (term_granted (deeper c) t more (first_fits c t ts a)
+        (more_granted h 1 c ts k (takes_same h (suc (count ts)) (1 + count ts) (omega arith) n) (others_fit c t ts a) e)))
 
     pub more_granted : (h : Head) (n : ℕ) (c : Place) (ts : WrittenTerms) (k : Later) → Takes E h (n + count ts) → ArgumentsFit E.signature c ts
         → k E ≡ true → checks_more h n (deeper c) ts k E ≡ true
@@ -162,8 +162,8 @@ module _ (E : Environment) where
     more_granted h n c (one_more t ts) k m a e =
         let more : Later = checks_more h (suc n) (deeper c) ts k in
         granted (separates h n) (checks_term (deeper c) t more) E (some_go_on h n (count ts) m)
-          (term_granted (deeper c) t more (first_fits c t ts a)
-            (more_granted h (suc n) c ts k (takes_same h (n + suc (count ts)) (suc n + count ts) (omega arith) m) (others_fit c t ts a) e))
+        (term_granted (deeper c) t more (first_fits c t ts a)
+        (more_granted h (suc n) c ts k (takes_same h (n + suc (count ts)) (suc n + count ts) (omega arith) m) (others_fit c t ts a) e))
 
   -- ---- the left side of a comparison
 
@@ -183,5 +183,5 @@ module _ (E : Environment) where
   left_granted c (named f ts) k a e =
       let o : Option (Kind × ℕ) = declared E.signature f in
       granted (begins_atom f) (checks_arguments (of_name f) c ts (in_role (compares f) k)) E (symbol_declared o (count ts) a.0.0, a.2.0)
-        (arguments_granted (of_name f) c ts (in_role (compares f) k) (symbol_arity o (count ts) a.0.0) (a.0.1, a.1, a.2.1, a.3)
-          (granted (compares f) k E (symbol_sort o (count ts) a.0.0) e))
+      (arguments_granted (of_name f) c ts (in_role (compares f) k) (symbol_arity o (count ts) a.0.0) (a.0.1, a.1, a.2.1, a.3)
+      (granted (compares f) k E (symbol_sort o (count ts) a.0.0) e))
