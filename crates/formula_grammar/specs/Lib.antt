@@ -1,0 +1,11 @@
+pub mod Written
+pub mod Grammar
+pub mod Machine
+pub mod Checks
+pub mod FirstFault
+pub mod Begins
+pub mod GrammarLaws
+pub mod Lawful
+pub mod Meaning
+pub mod Reading
+pub mod ReadingLaws

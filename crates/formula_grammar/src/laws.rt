@@ -1,0 +1,33 @@
+ghost use Rattle.formula_grammar.specs.GrammarLaws.{OneFileReading, OneFormulaReading, FileFaultsStandRight, FormulaFaultsStandRight, FaultlessFilesRead, FaultlessFormulasRead};
+ghost use Rattle.formula_grammar.specs.ReadingLaws.{LawfulFilesAreFaultless, LawfulFormulasAreFaultless, NeverBoth, OneFault, NeverBothOfFormula};
+
+/// The first fault stands where the grammar alone says: an unfinished input at its end, a word that no whole text has
+/// there at this word, and every other fault behind a front of a whole text. A text without a fault is a whole text. A
+/// law: it does nothing when it runs.
+pub fn faults_stand_right()
+    ensures files { FileFaultsStandRight }
+    ensures formulas { FormulaFaultsStandRight }
+    ensures faultless_files { FaultlessFilesRead }
+    ensures faultless_formulas { FaultlessFormulasRead }
+{}
+
+/// A text reads in one way only. A law: it does nothing when it runs.
+pub fn at_most_one_reading()
+    ensures files { OneFileReading }
+    ensures formulas { OneFormulaReading }
+{}
+
+/// A text that is written as a file has no first fault exactly where its statements use names as they are declared and
+/// pass no limit; and so of formulas. A law: it does nothing when it runs.
+pub fn lawful_is_faultless()
+    ensures files { LawfulFilesAreFaultless }
+    ensures formulas { LawfulFormulasAreFaultless }
+{}
+
+/// A text that reads as a file or as a formula has no first fault, and no text has two. A law: it does nothing when it
+/// runs.
+pub fn at_most_one_outcome()
+    ensures never_both { NeverBoth }
+    ensures one_fault { OneFault }
+    ensures formulas { NeverBothOfFormula }
+{}

@@ -1,0 +1,13 @@
+//! The grammar of files and formulas, and the first fault of every other input.
+#![tactic(auto)]
+
+mod fault;
+mod laws;
+mod shape;
+
+pub use fault::{Fault, FaultKind};
+pub use laws::{at_most_one_outcome, at_most_one_reading, faults_stand_right, lawful_is_faultless};
+pub use shape::Shape;
+
+#[cfg(test)]
+mod tests;
