@@ -1,0 +1,17 @@
+//! Flat conjunctions over numbered variables, cubes, and nests of negated conjunctions, with what they mean.
+#![tactic(auto)]
+
+mod args;
+mod atom;
+mod cube;
+mod laws;
+mod normal;
+
+pub use args::Args;
+pub use atom::{Basic, Flat};
+pub use cube::{Cube, Cubes, Part, Parts};
+pub use laws::meanings_are_stable;
+pub use normal::{Normal, Normals};
+
+#[cfg(test)]
+mod tests;
