@@ -1,5 +1,9 @@
+pub mod Added
+pub mod Classes
 pub mod Fitting
 pub mod Laws
 pub mod Meanings
 pub mod Normals
 pub mod Numbering
+pub mod Parts
+pub mod Solved
