@@ -1,5 +1,7 @@
+pub mod Collecting
 pub mod Forms
 pub mod Leaf
+pub mod Occurrences
 pub mod Satisfaction
 pub mod Stability
 pub mod Terms

@@ -3,6 +3,8 @@
 
 mod file;
 mod formula;
+mod free;
+mod index;
 mod laws;
 mod names;
 mod pred;
@@ -12,6 +14,8 @@ mod token;
 
 pub use file::File;
 pub use formula::Formula;
+pub use free::free_variables;
+pub use index::indexes;
 pub use laws::{meanings_are_stable, well_formed_is_stable};
 pub use names::Names;
 pub use pred::{Pred, Preds};

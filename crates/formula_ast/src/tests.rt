@@ -101,13 +101,77 @@ fn a_formula_of_each_form_is_copied(rt: HostRuntime) -> Result<(), Fail> {
 
 // Deeper than any formula that a text within the limits gives. The checked build of `rt try` has too little stack for it.
 #[test]
-fn a_deep_formula_is_copied(rt: HostRuntime) -> Result<(), Fail> {
+fn a_deep_formula_is_copied_and_walked(rt: HostRuntime) -> Result<(), Fail> {
     let mut formula = Formula::True;
     for _ in 0..1250 {
         formula = Formula::Not(boxed(rt.alloc(), formula)?);
     }
     let copy = formula.copy(rt.alloc())?;
     assert!(rt; matches!(copy, Formula::Not(_)));
+    for x in 0..1250 {
+        formula = Formula::Exists(x, boxed(rt.alloc(), formula)?);
+    }
+    assert_eq!(rt; free_variables(rt.alloc(), &formula)?.len(), 0);
+    assert_eq!(rt; indexes(rt.alloc(), &formula)?.len(), 0);
+    Ok(())
+}
+
+// The formula that says that there is a Y with X = f(Y), where X is 1 and Y is 0.
+fn has_argument(alloc: Global) -> Result<Formula, Fail> {
+    let applied = Term::App(Symbol::Named(0), variables(alloc, &[0])?);
+    let body = Formula::Eq(Term::Var(1), applied);
+    Ok(Formula::Exists(0, boxed(alloc, body)?))
+}
+
+// The free variables of a formula.
+fn free_of(alloc: Global, formula: &Formula) -> Result<Vec<usize>, Fail> {
+    let places = free_variables(alloc, formula)?;
+    let mut listed = Vec::new(alloc);
+    for i in 0..places.len() {
+        listed.push(*places.get(i))?;
+    }
+    Ok(listed)
+}
+
+#[test]
+fn free_variables_stand_once_by_first_occurrence(rt: HostRuntime) -> Result<(), Fail> {
+    let alloc = rt.alloc();
+    let free = free_of(alloc, &has_argument(alloc)?)?;
+    assert_eq!(rt; free.as_slice(), [1].as_slice());
+    let binds_another = Formula::Forall(3, boxed(alloc, finite(4))?);
+    let free = free_of(alloc, &binds_another)?;
+    assert_eq!(rt; free.as_slice(), [4].as_slice());
+    let bound_and_free = Formula::And(
+        boxed(alloc, Formula::Exists(5, boxed(alloc, finite(5))?))?,
+        boxed(alloc, Formula::Call(0, variables(alloc, &[7, 5, 7])?))?,
+    );
+    let free = free_of(alloc, &bound_and_free)?;
+    assert_eq!(rt; free.as_slice(), [7, 5].as_slice());
+    let mut variables = 0;
+    for formula in each_form(alloc)? {
+        variables += free_variables(alloc, &formula)?.len().min(9);
+    }
+    assert_eq!(rt; variables, 20);
+    Ok(())
+}
+
+#[test]
+fn indexes_stand_once_by_first_occurrence(rt: HostRuntime) -> Result<(), Fail> {
+    let alloc = rt.alloc();
+    let none = indexes(alloc, &has_argument(alloc)?)?;
+    assert_eq!(rt; none.len(), 0);
+    let mut arguments = Terms::new(alloc);
+    arguments.push(Term::App(Symbol::Further(2), variables(alloc, &[0])?))?;
+    arguments.push(Term::App(Symbol::Further(9), Terms::new(alloc)))?;
+    let twice = Formula::Not(boxed(
+        alloc,
+        Formula::Differ(
+            Term::App(Symbol::Further(9), arguments),
+            Term::App(Symbol::Further(5), Terms::new(alloc)),
+        ),
+    )?);
+    let listed = indexes(alloc, &twice)?;
+    assert_eq!(rt; listed.as_slice(), [9, 2, 5].as_slice());
     Ok(())
 }
 

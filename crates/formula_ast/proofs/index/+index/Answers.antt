@@ -1,0 +1,18 @@
+use Rattle.std.proofs.lemmas.Result.{on_ok_weaker}
+use Rattle.formula_ast.specs.Occurrences.{indexes_in}
+use Rattle.formula_ast.specs.Terms.{list_of}
+use Rattle.formula_ast.proofs.Collected.{collects_none, collects_then}
+use Rattle.formula_ast.proofs.Occurring.{indexes-var, indexes-app, flat_map-got}
+use Rattle.formula_ast.proofs.index.+index.Goals as goal
+
+pub of_term-returns-in-Var : goal.of_term-returns-in-Var
+of_term-returns-in-Var t c = rw (c.in-Var.is, indexes-var) (collects_none c.args.met.now.items)
+
+pub of_term-returns-in_ok-of_symbol-in-App : goal.of_term-returns-in_ok-of_symbol-in-App
+of_term-returns-in_ok-of_symbol-in-App t c =
+    rw (c.in-App.is, indexes-app) (on_ok_weaker c.of_terms.result (λ later. collects_then c.in_ok-of_symbol-in-App.ensures later) c.of_terms.ensures)
+
+pub of_terms-loop-i-preserved : goal.of_terms-loop-i-preserved
+of_terms-loop-i-preserved t c =
+    rw (flat_map-got indexes_in (list_of c.args.ts.now) c.loop-i.i c.get.result.now c.get.ensures)
+    (collects_then c.loop-i.invariant c.in_ok-of_term.ensures)
