@@ -1,12 +1,12 @@
 -- What stands in terms and formulas, one layer at a time.
-use Rattle.std.proofs.Common.{◌≡◌, ℕ, zero, suc, ◌+◌, ◌<◌, List, [], ◌∷◌, ◌++◌, length, take, refl, sym, ap, ◌∙◌, subst, ◌⊎◌, inl, inr, arith, Some, None}
+use Rattle.std.proofs.Common.{◌≡◌, ℕ, ◌+◌, List, [], ◌∷◌, ◌++◌, take, refl, ap, ◌∙◌, ◌⊎◌, inl, inr, Some}
 use Rattle.std.specs.Prelude.{flat_map, slice_get}
 use Rattle.std.proofs.lemmas.Grind.{flat_map-append}
 use Rattle.std.proofs.lemmas.List.{append-nil}
 use Rattle.tree_model.specs.declared.tree.Symbol.{Symbol}
 use Rattle.formula_ast.specs.declared.formula.Formula.{Formula}
 use Rattle.formula_ast.specs.declared.formula.Formula.TheVariants as v
-use Rattle.formula_ast.specs.declared.term.Term.{Term, Var, App', Row_of-Term, end_of-Term, more_of-Term}
+use Rattle.formula_ast.specs.declared.term.Term.{Term, Var}
 use Rattle.formula_ast.specs.declared.term.Term.TheVariants as term
 use Rattle.formula_ast.specs.declared.term.Term.TheBlock.{hidden-the_row-Term-0 as row}
 use Rattle.formula_ast.specs.declared.term.Terms.{Terms}

@@ -1,17 +1,14 @@
 -- What is free in a formula is among its free occurrences.
-use Rattle.std.proofs.Common.{◌≡◌, ◌≢◌, ℕ, zero, suc, ◌<◌, ◌+◌, Bool, true, false, cond, not, ◌==◌, List, [], ◌∷◌, ◌++◌, length, refl, sym, ap, ◌∙◌, subst, ◌⊎◌, inl, inr, arith, Option, Some, None}
-use Rattle.std.specs.Prelude.{is_some, Contains, ◌↔◌, flat_map, slice_get, slice_index_or, option_and_then}
+use Rattle.std.proofs.Common.{◌≡◌, ◌≢◌, ℕ, zero, suc, Bool, true, false, cond, not, ◌==◌, List, [], ◌∷◌, ◌++◌, refl, sym, ap, ◌∙◌, subst, ◌⊎◌, inl, inr, arith, Option, Some, None}
+use Rattle.std.specs.Prelude.{is_some, Contains, ◌↔◌, flat_map, slice_get, option_and_then}
 use Rattle.std.proofs.lemmas.Bool.{false≢true, eqb-true, eqb-false, cases_eq}
 use Rattle.tree_model.specs.declared.tree.Symbol.{Symbol}
 use Rattle.formula_ast.specs.declared.term.Term.{Term, App', Var, Row_of-Term, more_of-Term, end_of-Term}
 use Rattle.formula_ast.specs.declared.term.Term.TheBlock.{shown-the_row-Term-0 as shown}
-use Rattle.formula_ast.specs.declared.term.Term.TheOpen.{Term-F}
-use Rattle.formula_ast.specs.declared.term.Term.TheOpen as layer
 use Rattle.formula_ast.specs.declared.term.Term.TheViews.{out-Term}
-use Rattle.formula_ast.specs.declared.term.Terms.{Terms}
 use Rattle.formula_ast.specs.Forms.{Form, always, never, equal, differ, finite, call, win, no, and, or, imp, iff, exists, forall}
 use Rattle.formula_ast.specs.Occurrences.{variables_in, variables_among, without, first_occurrences, free_occurrences}
-use Rattle.formula_ast.specs.Terms.{list_of, subterm, argument}
+use Rattle.formula_ast.specs.Terms.{subterm, argument}
 use Rattle.formula_ast.specs.WellFormed.{OccursIn, IsFreeIn}
 use mathlib.Core.Former.{arity, this}
 use Rattle.sqlite_items.specs.formers.items.Items.{the_former}
@@ -123,6 +120,7 @@ nothing e = absurd (false≢true (ap is_some e))
 
 mutual
   unfolding variables_in variables_among terms_among
+
   -- what is among the variables of a term stands in it
   pub stands : (x : ℕ) (t : Term) → Has x (variables_in t) → OccursIn x t
   stands x (Var y) (inl e) = ([], ap (λ z. Some (Var z)) e)
@@ -209,6 +207,7 @@ free_there x (forall y f) h = has_still x y (free_occurrences f) h.0 (free_there
 
 -- a variable is listed exactly where it is free
 pub listed_free : (f : Form) (x : ℕ) → Contains (first_occurrences (free_occurrences f)) x ↔ IsFreeIn x f
-listed_free f x =
-    (λ c. free_here x f (has_first x (free_occurrences f) (from_contained x (first_occurrences (free_occurrences f)) c)),
-      λ free. contained x (first_occurrences (free_occurrences f)) (first_has x (free_occurrences f) (free_there x f free)))
+listed_free f x = (
+  λ c. free_here x f (has_first x (free_occurrences f) (from_contained x (first_occurrences (free_occurrences f)) c)),
+  λ free. contained x (first_occurrences (free_occurrences f)) (first_has x (free_occurrences f) (free_there x f free)),
+)

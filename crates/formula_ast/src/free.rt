@@ -112,7 +112,8 @@ impl Free {
 }
 
 /// The free variables of a formula, each once, by first occurrence from left to right. A variable's place in the list
-/// is its rank. The work grows with the size of the formula times the number of its variables.
+/// is its rank. The work grows with the size of the formula times the number of its free variables and the depth of its
+/// quantifiers.
 pub fn free_variables(alloc: Global, f: &Formula) -> Result<Places, NoMemory>
     ensures order { IfOk result (λ variables. variables ≡ first_occurrences (free_occurrences (form_of f.now))) }
     ensures free { IfOk result (λ variables. (x : ℕ) → Contains variables x ↔ IsFreeIn x (form_of f.now)) }

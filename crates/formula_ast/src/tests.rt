@@ -123,35 +123,38 @@ fn has_argument(alloc: Global) -> Result<Formula, Fail> {
     Ok(Formula::Exists(0, boxed(alloc, body)?))
 }
 
-// The free variables of a formula.
-fn free_of(alloc: Global, formula: &Formula) -> Result<Vec<usize>, Fail> {
-    let places = free_variables(alloc, formula)?;
-    let mut listed = Vec::new(alloc);
-    for i in 0..places.len() {
-        listed.push(*places.get(i))?;
+// The formula that joins both.
+fn joined(alloc: Global, f: Formula, g: Formula) -> Result<Formula, NoMemory> {
+    Ok(Formula::And(boxed(alloc, f)?, boxed(alloc, g)?))
+}
+
+// Whether these are the free variables of the formula, in this order.
+fn has_free(alloc: Global, formula: &Formula, wanted: &[usize]) -> Result<bool, NoMemory> {
+    let found = free_variables(alloc, formula)?;
+    let mut equal = found.len() == wanted.len();
+    for i in 0..found.len() {
+        equal = equal && wanted.get(i) == Some(found.get(i));
     }
-    Ok(listed)
+    Ok(equal)
+}
+
+#[test]
+fn a_variable_that_is_bound_is_not_free(rt: HostRuntime) -> Result<(), Fail> {
+    let alloc = rt.alloc();
+    let formula = has_argument(alloc)?;
+    assert!(rt; has_free(alloc, &formula, &[1])?);
+    let binds_another = Formula::Forall(3, boxed(alloc, finite(4))?);
+    assert!(rt; has_free(alloc, &binds_another, &[4])?);
+    Ok(())
 }
 
 #[test]
 fn free_variables_stand_once_by_first_occurrence(rt: HostRuntime) -> Result<(), Fail> {
     let alloc = rt.alloc();
-    let free = free_of(alloc, &has_argument(alloc)?)?;
-    assert_eq!(rt; free.as_slice(), [1].as_slice());
-    let binds_another = Formula::Forall(3, boxed(alloc, finite(4))?);
-    let free = free_of(alloc, &binds_another)?;
-    assert_eq!(rt; free.as_slice(), [4].as_slice());
-    let bound_and_free = Formula::And(
-        boxed(alloc, Formula::Exists(5, boxed(alloc, finite(5))?))?,
-        boxed(alloc, Formula::Call(0, variables(alloc, &[7, 5, 7])?))?,
-    );
-    let free = free_of(alloc, &bound_and_free)?;
-    assert_eq!(rt; free.as_slice(), [7, 5].as_slice());
-    let mut variables = 0;
-    for formula in each_form(alloc)? {
-        variables += free_variables(alloc, &formula)?.len().min(9);
-    }
-    assert_eq!(rt; variables, 20);
+    let bound = Formula::Exists(5, boxed(alloc, finite(5))?);
+    let called = Formula::Call(0, variables(alloc, &[7, 5, 7])?);
+    let formula = joined(alloc, bound, called)?;
+    assert!(rt; has_free(alloc, &formula, &[7, 5])?);
     Ok(())
 }
 

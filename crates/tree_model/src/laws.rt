@@ -2,7 +2,7 @@
 ghost use Rattle.tree_model.specs.Laws.{SameIsReflexive, SameIsSymmetric, SameIsTransitive, FiniteRespectsSame, ReadingIsStable, SameIsStable, FiniteIsStable, RootIsStable, FitsIsStable};
 
 /// Being one tree is an equivalence, and graphs that are one tree are finite together.
-#[tactic(auto, using(crate::proofs::OneTree::same_refl, crate::proofs::OneTree::same_sym, crate::proofs::OneTree::same_trans, crate::proofs::OneTree::finite_same))]
+#[tactic(auto, using(crate::proofs::Sameness::same_refl, crate::proofs::Sameness::same_sym, crate::proofs::Sameness::same_trans, crate::proofs::Sameness::finite_same))]
 pub fn sameness_laws()
     ensures reflexive { SameIsReflexive }
     ensures symmetric { SameIsSymmetric }

@@ -2,19 +2,19 @@
 #![tactic(auto)]
 
 mod assignment;
+mod comparison;
 mod finiteness;
 mod kind;
 mod laws;
 mod places;
-mod sameness;
 mod tree;
 
 pub use assignment::Assignment;
+pub use comparison::same;
 pub use finiteness::is_finite;
 pub use kind::Kind;
 pub use laws::{sameness_laws, stability_laws};
 pub use places::{NoMemory, Places};
-pub use sameness::same;
 pub use tree::{Node, Symbol, Tree, TreeError};
 
 #[cfg(test)]

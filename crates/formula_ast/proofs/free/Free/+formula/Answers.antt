@@ -26,9 +26,9 @@ pub formula-returns-in_ok-formula-in-And-clause-met : goal.formula-returns-in_ok
 formula-returns-in_ok-formula-in-And-clause-met t c =
     let joined = of_both c.args.f.now c.get-in-And.result.now c.get-in-And-2.result.now (rw (c.get-in-And.ensures, c.get-in-And-2.ensures) c.in-And.is) in
     rw joined (on_ok_weaker c.formula-in-And-2.result
-      (λ met. both_met c.args.self.now.bound.items (free_occurrences (form_of c.get-in-And.result.now)) (free_occurrences (form_of c.get-in-And-2.result.now))
-        c.in_ok-formula-in-And.ensures.met (rw (← c.in_ok-formula-in-And.ensures.bound) met))
-      c.formula-in-And-2.ensures.met)
+    (λ met. both_met c.args.self.now.bound.items (free_occurrences (form_of c.get-in-And.result.now)) (free_occurrences (form_of c.get-in-And-2.result.now))
+    c.in_ok-formula-in-And.ensures.met (rw (← c.in_ok-formula-in-And.ensures.bound) met))
+    c.formula-in-And-2.ensures.met)
 
 pub formula-returns-in-Finite-clause-met : goal.formula-returns-in-Finite-clause-met
 formula-returns-in-Finite-clause-met t c = rw (of_term c.args.f.now c.in-Finite.t c.in-Finite.is) c.term.ensures.met

@@ -1,6 +1,5 @@
 use Rattle.std.proofs.Common.{refl}
 use Rattle.formula_ast.specs.Occurrences.{variables_in}
-use Rattle.std.proofs.lemmas.Result.{on_ok_weaker}
 use Rattle.std.proofs.lemmas.List.{take_all}
 use Rattle.std.proofs.Common.{◌∙◌, arith}
 use Rattle.formula_ast.specs.Terms.{list_of}
@@ -21,7 +20,7 @@ pub terms-loop-i-preserved : goal.terms-loop-i-preserved
 terms-loop-i-preserved t c = record {
   bound = c.in_ok-term.ensures.bound ∙ c.loop-i.invariant.bound;
   met = rw (flat_map-got variables_in (list_of c.args.ts.now) c.loop-i.i c.get.result.now c.get.ensures)
-    (both_met c.args.self.now.bound.items _ _ c.loop-i.invariant.met (rw (← c.loop-i.invariant.bound) c.in_ok-term.ensures.met));
+      (both_met c.args.self.now.bound.items _ _ c.loop-i.invariant.met (rw (← c.loop-i.invariant.bound) c.in_ok-term.ensures.met));
 }
 
 pub terms-returns-clause-bound : goal.terms-returns-clause-bound

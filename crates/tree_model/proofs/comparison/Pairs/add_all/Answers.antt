@@ -3,7 +3,7 @@ use Rattle.std.specs.List.{zip}
 use Rattle.std.proofs.lemmas.List.{take_all}
 use Rattle.tree_model.specs.Comparing.{Adds}
 use Rattle.tree_model.proofs.Pairing.{adds_then, zip_more, zip_short}
-use Rattle.tree_model.proofs.sameness.Pairs.add_all.Goals as goal
+use Rattle.tree_model.proofs.comparison.Pairs.add_all.Goals as goal
 
 pub loop-i-preserved : goal.loop-i-preserved
 loop-i-preserved c =

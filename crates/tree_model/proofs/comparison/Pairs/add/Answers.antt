@@ -2,7 +2,7 @@ use Rattle.std.proofs.Common.{arith, refl, sym, ◌*◌, ◌+◌}
 use Rattle.std.proofs.lemmas.Nat.{mul-add-lt}
 use Rattle.tree_model.proofs.Pairing.{marked, adds_new}
 use Rattle.tree_model.proofs.Marking.{one_less}
-use Rattle.tree_model.proofs.sameness.Pairs.add.Goals as goal
+use Rattle.tree_model.proofs.comparison.Pairs.add.Goals as goal
 
 pub invariant_of-self : goal.invariant_of-self
 invariant_of-self c =

@@ -1,8 +1,8 @@
 use Rattle.std.proofs.Common.{arith, rules, refl, ◌∙◌}
 use Rattle.std.proofs.lemmas.Bool.{false≢true}
 use Rattle.tree_model.proofs.Pairing.{begins, one_label_here, compared, all_compared}
-use Rattle.tree_model.proofs.sameness.same.Goals.{then-ne-via-then-ne, then-ne-via-else-ne+then-len}
-use Rattle.tree_model.proofs.sameness.same.Goals as goal
+use Rattle.tree_model.proofs.comparison.same.Goals.{then-ne-via-then-ne, then-ne-via-else-ne+then-len}
+use Rattle.tree_model.proofs.comparison.same.Goals as goal
 
 pub loop-i-init : goal.loop-i-init
 loop-i-init c =
