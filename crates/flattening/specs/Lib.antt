@@ -1,0 +1,4 @@
+pub mod Flattening
+pub mod Numbers
+pub mod Plain
+pub mod Tables
