@@ -1,4 +1,6 @@
+pub mod Conditions
 pub mod Flattening
+pub mod Laws
 pub mod Numbers
 pub mod Plain
 pub mod Tables
