@@ -1,5 +1,5 @@
 -- The conjunction of a formula, form by form.
-use Rattle.std.proofs.Common.{ℕ, ◌≡◌, ◌+◌, ◌-◌, List, [], ◌∷◌, ◌++◌, append_assoc, append-nil, add-zero, refl, ap, sym, subst, ◌∙◌, arith}
+use Rattle.std.proofs.Common.{ℕ, ◌≡◌, ◌+◌, ◌-◌, List, [], ◌∷◌, ◌++◌, length, append_assoc, append-nil, add-zero, refl, ap, sym, subst, ◌∙◌, arith}
 use Rattle.tree_model.specs.Valuations.{update}
 use Rattle.formula_ast.specs.declared.formula.Formula.{Formula}
 use Rattle.formula_ast.specs.declared.formula.Formula.TheVariants as rust
@@ -18,8 +18,8 @@ use Rattle.flat_form.proofs.Ties.{norm_by_fields, join_join}
 use Rattle.flattening.specs.declared.solved.Key.{Key}
 use Rattle.flattening.specs.declared.solved.Key.TheVariants.{Call, Win}
 use Rattle.flattening.specs.Plain.{PlainTerm, Plain, term_of, terms_of, no_terms, one_more, plain_of, always, equal, finite, ask, no, and, exists, imply}
-use Rattle.flattening.specs.Numbers.{number_by}
-use Rattle.flattening.specs.Flattening.{wide, number, whole, bound_of, atoms_of, parts_of, negation, implication, with_more}
+use Rattle.flattening.specs.Numbers.{number_by, given_ranks, rank_in}
+use Rattle.flattening.specs.Flattening.{wide, number, whole, bound_of, atoms_of, parts_of, negation, implication, with_more, flattened}
 use Rattle.flattening.proofs.Given.{number_more}
 
 abbrev pub plain : Formula → Plain
@@ -166,3 +166,8 @@ module _ (entries : Key → List Cube) where
       → made ≡ implication entries m scope f g
   implied_made m scope after f g premise part made e a p q =
       let after_is : after ≡ scope + bound_of f = a ∙ ap (λ k. scope + k) (bound_read premise _ _ _ e) in rw (q, p, after_is, e) refl
+
+  pub flattening_made : (given : List (ℕ × ℕ)) (ranks : List ℕ) (n : ℕ) (f : Plain) (part made : Norm) (parts : Norms) → made ≡ norm 0 [] parts → parts ≡ also part none
+      → part ≡ negation entries (number_by given) n f → given ≡ given_ranks 0 ranks → n ≡ length ranks → made ≡ flattened entries (rank_in ranks) (length ranks) f
+  flattening_made given ranks n f part made parts a b p g l =
+      a ∙ ap (norm 0 []) (b ∙ ap (λ x. also x none) (p ∙ ap (λ (x : List (ℕ × ℕ)). negation entries (number_by x) n f) g ∙ ap (λ k. negation entries (rank_in ranks) k f) l))

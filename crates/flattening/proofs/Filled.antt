@@ -78,20 +78,17 @@ module _ {σ : Signature} where
     | inr w ↦ at_past tree.graph s (length trees) i path root (omega (arith, as_many)) ∙ sym (nth_past _ ts i path w)
   ]
 
-
   more_reads : (t : PlainTerm) (ts : PlainTerms) (e : Valuation σ) (tree : TreeOver σ) (trees : List (TreeOver σ)) → Reads e t tree
       → ((i : ℕ) → i < count ts → (path : List ℕ) → at (get_or trees i (leaf σ)).graph path ≡ nth_value e ts i path)
       → (i : ℕ) → i < count (one_more t ts) → (path : List ℕ) → at (get_or (tree ∷ trees) i (leaf σ)).graph path ≡ nth_value e (one_more t ts) i path
   more_reads t ts e tree trees reads read zero w path = reads path
   more_reads t ts e tree trees reads read (suc i) w path = read i (omega arith) path
 
-
   applied_tree : (s : Symbol) (ts : PlainTerms) (e : Valuation σ)
       → (trees : List (TreeOver σ)) × ((length trees ≡ count ts) × ((i : ℕ) → i < count ts → (path : List ℕ) → at (get_or trees i (leaf σ)).graph path ≡ nth_value e ts i path))
       → IsRoot σ s (count ts) → (tree : TreeOver σ) × Reads e (apply s ts) tree
   applied_tree s ts e (trees, (as_many, read)) root =
       let made = made_tree s trees (rw as_many root) in (made.0, applied_reads s ts e trees made.0 as_many read made.1.0 made.1.1)
-
 
   more_trees : (t : PlainTerm) (ts : PlainTerms) (e : Valuation σ) → (tree : TreeOver σ) × Reads e t tree
       → (trees : List (TreeOver σ)) × ((length trees ≡ count ts) × ((i : ℕ) → i < count ts → (path : List ℕ) → at (get_or trees i (leaf σ)).graph path ≡ nth_value e ts i path))

@@ -1,3 +1,4 @@
+pub mod Bridge
 pub mod ByForm
 pub mod CubesMean
 pub mod EachCube
@@ -9,3 +10,4 @@ pub mod Steps
 pub mod Table
 pub mod Ties
 pub mod Values
+pub mod Whole

@@ -28,7 +28,7 @@ abbrev mutual
   nth_reads e (one_more t ts) zero path = plain_reads e t path
   nth_reads e (one_more t ts) (suc i) path = nth_reads e ts i path
 
-abbrev layer_plain : Term-F Term Terms → PlainTerm
+abbrev pub layer_plain : Term-F Term Terms → PlainTerm
 layer_plain (layer.Var v) = variable v
 layer_plain (layer.App s ts) = apply s (terms_of (list_of ts))
 

@@ -5,13 +5,14 @@ use Rattle.tree_model.specs.Valuations.{Valuation}
 use Rattle.formula_ast.specs.declared.pred.Pred.{Pred}
 use Rattle.formula_ast.specs.Forms.{Form}
 use Rattle.formula_ast.specs.WellFormed.{IsFreeIn}
-use Rattle.formula_ast.specs.Satisfaction.{Wins, parameters, meaning_of}
+use Rattle.formula_ast.specs.Satisfaction.{Holds, Wins, parameters, meaning_of}
 use Rattle.flat_form.specs.declared.cube.Cube.{Cube}
-use Rattle.flat_form.specs.Meanings.{SomeHolds}
+use Rattle.flat_form.specs.Meanings.{SomeHolds, NormHolds}
+use Rattle.flat_form.specs.Normals.{Norm}
 use Rattle.flat_form.specs.Numbering.{CubesOver}
 use Rattle.flattening.specs.declared.solved.Key.{Key}
 use Rattle.flattening.specs.declared.solved.Key.TheVariants.{Call, Win}
-use Rattle.flattening.specs.Plain.{PlainTerm, PlainTerms, variable, apply, no_terms, one_more, Plain, always, equal, finite, ask, no, and, exists}
+use Rattle.flattening.specs.Plain.{PlainTerm, PlainTerms, variable, apply, no_terms, one_more, Plain, always, equal, finite, ask, no, and, exists, plain_of}
 use Rattle.flattening.specs.Tables.{HasKey, cubes_at}
 
 -- how many terms there are
@@ -19,10 +20,9 @@ abbrev pub count : PlainTerms → ℕ
 count no_terms = 0
 count (one_more t ts) = 1 + count ts
 
--- each variable once, and every free variable of the formula among them
-pub record AreRanksOf (ranks : List ℕ) (f : Form) : Type 0 where
-  pub distinct : (i j : ℕ) → i < length ranks → j < length ranks → slice_index ranks i ≡ slice_index ranks j → i ≡ j
-  pub free : (x : ℕ) → IsFreeIn x f → Contains ranks x
+-- every free variable of the formula is in the list
+abbrev pub HasFreeVariables : List ℕ → Form → Type 0
+HasFreeVariables ranks f = (x : ℕ) → IsFreeIn x f → Contains ranks x
 
 -- d gives the variable `ranks[i]` the tree that e gives the number i
 abbrev pub GivesRanks : {σ : Signature} → List ℕ → Valuation σ → Valuation σ → Type 0
@@ -81,3 +81,10 @@ module _ (σ : Signature) (preds : List Pred) where
   EntriesMean table (no f) = EntriesMean table f
   EntriesMean table (and f g) = EntriesMean table f × EntriesMean table g
   EntriesMean table (exists x f) = EntriesMean table f
+
+-- The negated conjunction means the formula, over every signature that the formula's symbols fit: where each entry means
+-- its predicate or its win, it holds exactly where the formula does, with the variable `ranks[i]` as number i.
+pub record MeansFormula (ranks : List ℕ) (table : List (Key × List Cube)) (f : Form) (normal : Norm) : Type 0 where
+  pub exactly : (σ : Signature) (preds : List Pred) (d e : Valuation σ)
+      → FormulaFits σ (plain_of f) → EntriesMean σ preds table (plain_of f) → GivesRanks ranks d e
+      → NormHolds (length ranks) e normal ↔ Holds σ (meaning_of σ preds) f d

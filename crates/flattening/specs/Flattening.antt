@@ -11,8 +11,11 @@ use Rattle.flat_form.specs.declared.atom.Flat.TheVariants.{VarVar, VarTerm, Fini
 use Rattle.flat_form.specs.declared.cube.Part.{Part}
 use Rattle.flat_form.specs.declared.cube.Cube.{Cube}
 use Rattle.flat_form.specs.Normals.{Norm, Norms, norm, none, also, join}
+use Rattle.formula_ast.specs.Forms.{Form}
 use Rattle.flattening.specs.declared.solved.Key.{Key}
-use Rattle.flattening.specs.Plain.{PlainTerm, PlainTerms, variable, apply, no_terms, one_more, Plain, always, equal, finite, ask, no, and, exists}
+use Rattle.flattening.specs.Numbers.{rank_in}
+use Rattle.flattening.specs.Tables.{cubes_at}
+use Rattle.flattening.specs.Plain.{PlainTerm, PlainTerms, variable, apply, no_terms, one_more, Plain, always, equal, finite, ask, no, and, exists, plain_of}
 
 -- how many new variables a term takes for itself: one, where it is no variable
 abbrev pub alone : PlainTerm → ℕ
@@ -163,3 +166,7 @@ module _ (entries : Key → List Cube) where
   -- the formula, negated twice
   abbrev pub flattened : (ℕ → ℕ) → ℕ → Plain → Norm
   flattened m scope f = norm 0 [] (also (negation m scope f) none)
+
+-- the flattening of a formula by a table, over as many variables as there are ranks
+unfoldable pub flattening_of : List ℕ → List (Key × List Cube) → Form → Norm
+flattening_of ranks table f = flattened (cubes_at table) (rank_in ranks) (length ranks) (plain_of f)

@@ -3,9 +3,10 @@ ghost use Rattle.formula_ast.specs.Forms.{form_of};
 ghost use Rattle.formula_ast.specs.Terms.{list_of};
 ghost use Rattle.flat_form.specs.Normals.{Norm, Norms, norm_of, norms_of, join, norm, also, none};
 ghost use Rattle.flattening.specs.Plain.{Plain, term_of, plain_of};
-ghost use Rattle.flattening.specs.Numbers.{number_by, rank_in};
+ghost use Rattle.flattening.specs.Numbers.{number_by};
+ghost use Rattle.flattening.specs.Conditions.{HasFreeVariables, HasEntries, MeansFormula};
 ghost use Rattle.flattening.specs.Tables.{cubes_at};
-ghost use Rattle.flattening.specs.Flattening.{equality, equality_bound, bound_of, parts_of, negation, implication, flattened, all_denied, with_more};
+ghost use Rattle.flattening.specs.Flattening.{equality, equality_bound, bound_of, parts_of, negation, implication, flattening_of, all_denied, with_more};
 
 use crate::atoms::add_atoms;
 use crate::cubes::deny_all;
@@ -250,8 +251,9 @@ pub fn flatten(
     ranks: &Places,
     table: &Solved,
 ) -> Result<Normal, NoMemory>
-    ensures normal { IfOk result (λ made. norm_of made
-        ≡ flattened (cubes_at table.now) (rank_in ranks.now) (length ranks.now) (plain_of (form_of f.now))) }
+    ensures normal { IfOk result (λ made. norm_of made ≡ flattening_of ranks.now table.now (form_of f.now)) }
+    ensures meaning { IfOk result (λ made. HasFreeVariables ranks.now (form_of f.now) → HasEntries table.now (plain_of (form_of f.now))
+        → MeansFormula ranks.now table.now (form_of f.now) (norm_of made)) }
 {
     let mut given = Numbers::of_ranks(alloc, ranks)?;
     let part = negated(alloc, f, &mut given, table, ranks.len())?;

@@ -4,13 +4,11 @@
 mod atoms;
 mod conjunctions;
 mod cubes;
-mod laws;
 mod numbers;
 mod solved;
 mod terms;
 
 pub use conjunctions::flatten;
-pub use laws::equations_say_their_terms;
 pub use solved::{Key, Solved};
 
 #[cfg(test)]
