@@ -1,7 +1,6 @@
 -- Formulas mean what their plain forms do, and have the same free variables.
-use Rattle.std.proofs.Common.{ℕ, zero, suc, ◌≡◌, ◌+◌, ◌<◌, ◌≤◌, List, [], ◌∷◌, length, refl, ap, sym, subst, ◌∙◌, arith, inl, inr, ◌⊎◌}
-use Rattle.std.specs.Prelude.{Option, Some, None, IsSome, slice_get, slice_index, option_and_then, Contains, ◌↔◌}
-use Rattle.classical.specs.Classical.{Either, Exists, IsStable}
+use Rattle.std.proofs.Common.{ℕ, suc, ◌≡◌, List, [], ◌∷◌, refl, ap, sym, subst, ◌∙◌, inl, inr}
+use Rattle.std.specs.Prelude.{Option, Some, IsSome, slice_get, option_and_then}
 use Rattle.classical.proofs.Stable.{◌>>=◌}
 use Rattle.tree_model.specs.Signatures.{Signature, TreeOver}
 use Rattle.tree_model.specs.Trees.{at, ReadsFinite}
@@ -20,9 +19,9 @@ use Rattle.formula_ast.specs.Satisfaction.{Holds, AllReadAs, term_reads, meaning
 use Rattle.formula_ast.specs.WellFormed.{IsFreeIn, OccursIn}
 use Rattle.formula_ast.proofs.Stable.{Holds_stable}
 use Rattle.flattening.specs.declared.solved.Key.TheVariants.{Win}
-use Rattle.flattening.specs.Plain.{PlainTerm, PlainTerms, variable, apply, no_terms, one_more, term_of, terms_of, Plain, plain_of}
+use Rattle.flattening.specs.Plain.{PlainTerm, PlainTerms, variable, apply, no_terms, one_more, term_of, terms_of, plain_of}
 use Rattle.flattening.specs.Conditions.{KeyHolds}
-use Rattle.flattening.proofs.Readings.{plain_reads, reading, layer_plain, by_layer}
+use Rattle.flattening.proofs.Readings.{reading, layer_plain, by_layer}
 use Rattle.flattening.proofs.Values.{In, InSome, value}
 use Rattle.flattening.proofs.Meaning.{PlainHolds, ReadAll, IsFree}
 

@@ -19,7 +19,7 @@ use Rattle.flattening.specs.declared.solved.Key.{Key}
 use Rattle.flattening.specs.declared.solved.Key.TheVariants.{Call, Win}
 use Rattle.flattening.specs.Plain.{PlainTerm, Plain, term_of, terms_of, no_terms, one_more, plain_of, always, equal, finite, ask, no, and, exists, imply}
 use Rattle.flattening.specs.Numbers.{number_by, given_ranks, rank_in}
-use Rattle.flattening.specs.Flattening.{wide, number, whole, bound_of, atoms_of, parts_of, negation, implication, with_more, flattened}
+use Rattle.flattening.specs.Flattening.{number, whole, bound_of, atoms_of, parts_of, negation, implication, with_more, flattened}
 use Rattle.flattening.proofs.Given.{number_more}
 
 abbrev pub plain : Formula → Plain

@@ -1,21 +1,17 @@
 -- A cube that is denied at arguments.
-use Rattle.std.proofs.Common.{ℕ, zero, suc, ◌≡◌, ◌+◌, ◌-◌, ◌<◌, ◌≤◌, Bool, true, false, cond, List, [], ◌∷◌, ◌++◌, length, map, get_or, nat_lt, lt-ltb, le-ltb, refl, ap, sym, subst, ◌∙◌, arith, inl, inr, ◌⊎◌}
-use Rattle.std.specs.Prelude.{Some, slice_index, if◌then◌else◌}
-use Rattle.classical.specs.Classical.{Either, Exists}
+use Rattle.std.proofs.Common.{ℕ, zero, suc, ◌≡◌, ◌+◌, ◌-◌, ◌<◌, ◌≤◌, cond, List, [], ◌∷◌, length, map, nat_lt, lt-ltb, le-ltb, refl, ap, sym, subst, ◌∙◌, arith, inl, inr}
+use Rattle.std.specs.Prelude.{Some, slice_index}
 use Rattle.classical.proofs.Stable.{◌>>=◌}
-use Rattle.tree_model.specs.declared.tree.Symbol.{Symbol}
-use Rattle.tree_model.specs.Signatures.{Signature, TreeOver, Alike}
+use Rattle.tree_model.specs.Signatures.{Signature, Alike}
 use Rattle.tree_model.specs.Trees.{at}
 use Rattle.tree_model.specs.Valuations.{Valuation}
 use Rattle.tree_model.proofs.Sameness.{finite_same}
-use Rattle.tree_facts.specs.Equations.{IsApplied}
 use Rattle.tree_facts.proofs.Equations.{within_or_past}
 use Rattle.flat_form.specs.declared.atom.Flat.{Flat}
 use Rattle.flat_form.specs.declared.atom.Flat.TheVariants.{VarVar, VarTerm, Finite}
 use Rattle.flat_form.specs.declared.cube.Part.{Part}
 use Rattle.flat_form.specs.declared.cube.Cube.{Cube}
-use Rattle.flat_form.specs.Normals.{Norm, Norms, norm, none, also}
-use Rattle.flat_form.specs.Meanings.{AtomHolds, BasicHolds, PartFails, AllFail, NormHolds, NormsHold, Extends, SomeHolds, CubeHolds}
+use Rattle.flat_form.specs.Meanings.{AtomHolds, BasicHolds, AllFail, NormHolds, NormsHold, Extends, SomeHolds, CubeHolds}
 use Rattle.flattening.specs.Flattening.{renamed, placed, denied_parts, denied, all_denied}
 
 length_map : (f : ℕ → ℕ) (xs : List ℕ) → length (map f xs) ≡ length xs

@@ -1,12 +1,12 @@
 -- The values of the new variables of terms exist.
-use Rattle.std.proofs.Common.{ℕ, zero, suc, ◌≡◌, ◌+◌, ◌<◌, ◌≤◌, List, [], ◌∷◌, ◌++◌, length, get_or, refl, ap, sym, subst, ◌∙◌, arith, inl, inr, ◌⊎◌, add-zero}
-use Rattle.std.specs.Prelude.{Option, Some, None, slice_index, Contains}
+use Rattle.std.proofs.Common.{ℕ, zero, suc, ◌≡◌, ◌+◌, ◌<◌, ◌≤◌, List, [], ◌∷◌, length, get_or, refl, ap, sym, ◌∙◌, arith, inl, inr, add-zero}
+use Rattle.std.specs.Prelude.{Some, slice_index, Contains}
 use Rattle.tree_model.specs.declared.tree.Symbol.{Symbol}
 use Rattle.tree_model.specs.Signatures.{Signature, TreeOver, IsRoot, Alike}
 use Rattle.tree_model.specs.Trees.{at}
 use Rattle.tree_model.specs.Valuations.{Valuation, update}
 use Rattle.formula_ast.specs.Leaf.{leaf}
-use Rattle.tree_facts.specs.Equations.{Equation, equals_variable, equals_term, IsApplied, HasDistinctLefts, IsParameter, SystemFits, left_of}
+use Rattle.tree_facts.specs.Equations.{Equation, equals_variable, equals_term, IsApplied, HasDistinctLefts, SystemFits, left_of}
 use Rattle.tree_facts.proofs.Equations.{at_past, within_or_past}
 use Rattle.tree_facts.proofs.Existence.{has_solution}
 use Rattle.tree_facts.proofs.Members.{contains_first, contains_cases}
@@ -14,10 +14,9 @@ use Rattle.flat_form.specs.declared.atom.Flat.{Flat}
 use Rattle.flat_form.specs.Meanings.{BasicHolds, Extends}
 use Rattle.flattening.specs.Plain.{PlainTerm, PlainTerms, variable, apply, no_terms, one_more}
 use Rattle.flattening.specs.Conditions.{count, TermFits, TermsFit}
-use Rattle.flattening.specs.Flattening.{alone, inside, wides, wide, applied, number, arguments, equations, deeper}
+use Rattle.flattening.specs.Flattening.{alone, inside, wides, applied, number, arguments, equations, deeper}
 use Rattle.flattening.proofs.Given.{update_same, update_other}
-use Rattle.flattening.proofs.Readings.{plain_reads, nth_reads}
-use Rattle.flattening.proofs.Values.{In, InSome, value, nth_value, value_coincides, nth_coincides, Reads, basic_both, basic_parts, length_arguments, nth_past}
+use Rattle.flattening.proofs.Values.{In, InSome, nth_value, value_coincides, nth_coincides, Reads, basic_both, length_arguments, nth_past}
 
 -- so many numbers from k on
 abbrev run_from : ℕ → ℕ → List ℕ

@@ -1,27 +1,24 @@
 -- The conjunction of a formula means the formula.
-use Rattle.std.proofs.Common.{ℕ, zero, suc, ◌≡◌, ◌+◌, ◌-◌, ◌<◌, ◌≤◌, Bool, true, false, List, [], ◌∷◌, ◌++◌, length, map, get_or, refl, ap, sym, subst, ◌∙◌, arith, inl, inr, ◌⊎◌, add-zero}
-use Rattle.std.specs.Prelude.{Option, Some, None, IsSome, slice_index, ◌↔◌}
+use Rattle.std.proofs.Common.{ℕ, zero, suc, ◌≡◌, ◌+◌, ◌<◌, ◌≤◌, List, [], ◌∷◌, length, map, refl, ap, sym, subst, ◌∙◌, arith, inl, inr, ◌⊎◌, add-zero}
+use Rattle.std.specs.Prelude.{IsSome, slice_index}
 use Rattle.std.proofs.lemmas.Bool.Decides.{eqb_tells}
-use Rattle.classical.specs.Classical.{Either, Exists, IsStable}
-use Rattle.classical.proofs.Stable.{some, into, not_stable, all_stable, and_stable, unit_stable, ◌>>=◌}
-use Rattle.tree_model.specs.declared.tree.Symbol.{Symbol}
+use Rattle.classical.specs.Classical.{Exists, IsStable}
+use Rattle.classical.proofs.Stable.{not_stable, all_stable, and_stable, unit_stable, ◌>>=◌}
 use Rattle.tree_model.specs.Signatures.{Signature, TreeOver, Alike}
 use Rattle.tree_model.specs.Trees.{at, ReadsFinite}
 use Rattle.tree_model.specs.Valuations.{Valuation, update}
 use Rattle.tree_model.proofs.Stability.{read_stable}
 use Rattle.formula_ast.specs.declared.pred.Pred.{Pred}
 use Rattle.formula_ast.specs.Satisfaction.{parameters}
-use Rattle.flat_form.specs.declared.atom.Flat.{Flat}
-use Rattle.flat_form.specs.declared.atom.Flat.TheVariants.{VarVar, VarTerm, Finite}
 use Rattle.flat_form.specs.declared.cube.Cube.{Cube}
-use Rattle.flat_form.specs.Normals.{Norm, Norms, norm, none, also, join}
-use Rattle.flat_form.specs.Meanings.{BasicHolds, NormHolds, NormsHold, Extends, SomeHolds, CubeHolds}
+use Rattle.flat_form.specs.Normals.{Norms, none, also, join}
+use Rattle.flat_form.specs.Meanings.{BasicHolds, NormHolds, NormsHold, Extends}
 use Rattle.flattening.specs.declared.solved.Key.{Key}
 use Rattle.flattening.specs.Plain.{PlainTerm, PlainTerms, variable, apply, no_terms, one_more, Plain, always, equal, finite, ask, no, and, exists}
 use Rattle.flattening.specs.Conditions.{count, TermFits, TermsFit, FormulaFits, KeyHolds, EntryMeans}
-use Rattle.flattening.specs.Flattening.{alone, inside, wides, wide, number, numbers, equation, equations, equality, equality_bound, whole, wholes, all_denied, bound_of, atoms_of, parts_of, negation, flattened}
+use Rattle.flattening.specs.Flattening.{alone, wides, wide, numbers, equation, equality, equality_bound, whole, wholes, bound_of, atoms_of, parts_of, negation, flattened}
 use Rattle.flattening.proofs.Given.{update_same, update_other}
-use Rattle.flattening.proofs.Values.{In, InSome, value, nth_value, value_coincides, nth_coincides, Reads, basic_both, basic_parts, number_sound}
+use Rattle.flattening.proofs.Values.{In, InSome, value, value_coincides, Reads, basic_both, basic_parts, number_sound}
 use Rattle.flattening.proofs.CubesMean.{AllFree, some_refuted, none_holds}
 use Rattle.flattening.proofs.Filled.{Filled, one_filled, own_filled, equations_filled, number_below, read_at}
 

@@ -1,5 +1,5 @@
 -- What terms read, as plain data.
-use Rattle.std.proofs.Common.{ℕ, zero, suc, ◌≡◌, ◌+◌, ◌<◌, ◌≤◌, List, [], ◌∷◌, length, refl, ap, sym, ◌∙◌, arith, inl, inr, ◌⊎◌}
+use Rattle.std.proofs.Common.{ℕ, zero, suc, ◌≡◌, List, [], ◌∷◌, length, refl, ap, sym, ◌∙◌, arith}
 use Rattle.std.specs.Prelude.{Option, Some, None, slice_get, option_and_then}
 use Rattle.tree_model.specs.declared.tree.Symbol.{Symbol}
 use Rattle.tree_model.specs.Graphs.{Graph}
@@ -10,7 +10,7 @@ use Rattle.formula_ast.specs.declared.term.Term.TheOpen as layer
 use Rattle.formula_ast.specs.declared.term.Term.TheViews as views
 use Rattle.formula_ast.specs.declared.term.Term.TheViews.{out-Term, roll-Term}
 use Rattle.formula_ast.specs.declared.term.Terms.{Terms}
-use Rattle.formula_ast.specs.Terms.{list_of, reads, layer_reads, subterm, argument}
+use Rattle.formula_ast.specs.Terms.{list_of, reads, layer_reads}
 use Rattle.flattening.specs.Plain.{PlainTerm, PlainTerms, variable, apply, no_terms, one_more, term_of, terms_of}
 use Rattle.flattening.specs.Conditions.{count}
 use Rattle.flattening.proofs.Ties.{variable_term, applied_term}

@@ -5,10 +5,9 @@ use Rattle.std.proofs.lemmas.Option.{slice_get_within, get_or_from_slice_get}
 use Rattle.tree_model.specs.declared.tree.Symbol.{Symbol}
 use Rattle.formula_ast.specs.declared.term.Term.{Term}
 use Rattle.formula_ast.specs.declared.term.Term.TheVariants as rust
-use Rattle.formula_ast.specs.declared.term.Term.TheViews as views
 use Rattle.formula_ast.specs.declared.term.Terms.{Terms}
 use Rattle.formula_ast.specs.Terms.{list_of}
-use Rattle.flattening.specs.Plain.{PlainTerm, PlainTerms, variable, apply, no_terms, one_more, term_of, row_terms, terms_of}
+use Rattle.flattening.specs.Plain.{variable, apply, one_more, term_of, row_terms, terms_of}
 
 pub variable_term : (v : ℕ) → term_of (rust.Var v) ≡ variable v
 unfolding term_of

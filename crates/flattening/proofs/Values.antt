@@ -1,20 +1,18 @@
 -- The values of the new variables of terms: the equations say what they are, and they exist.
-use Rattle.std.proofs.Common.{ℕ, zero, suc, ◌≡◌, ◌+◌, ◌<◌, ◌≤◌, List, [], ◌∷◌, ◌++◌, length, get_or, refl, ap, sym, subst, ◌∙◌, arith, inl, inr, ◌⊎◌}
-use Rattle.std.specs.Prelude.{Option, Some, None, slice_index, Contains}
-use Rattle.std.proofs.lemmas.Bool.Decides.{eqb_tells}
+use Rattle.std.proofs.Common.{ℕ, zero, suc, ◌≡◌, ◌+◌, ◌<◌, ◌≤◌, List, [], ◌∷◌, ◌++◌, length, refl, ap, sym, ◌∙◌, arith, inl, inr, ◌⊎◌}
+use Rattle.std.specs.Prelude.{Option, Some, None, slice_index}
 use Rattle.tree_model.specs.declared.tree.Symbol.{Symbol}
-use Rattle.tree_model.specs.Signatures.{Signature, TreeOver, IsRoot, Alike}
+use Rattle.tree_model.specs.Signatures.{Signature, TreeOver, Alike}
 use Rattle.tree_model.specs.Graphs.{Graph}
 use Rattle.tree_model.specs.Trees.{at}
-use Rattle.tree_model.specs.Valuations.{Valuation, update}
+use Rattle.tree_model.specs.Valuations.{Valuation}
 use Rattle.tree_facts.specs.Equations.{IsApplied}
 use Rattle.tree_facts.proofs.Equations.{at_past, within_or_past}
 use Rattle.flat_form.specs.declared.atom.Flat.{Flat}
-use Rattle.flat_form.specs.Meanings.{BasicHolds, Extends}
+use Rattle.flat_form.specs.Meanings.{BasicHolds}
 use Rattle.flattening.specs.Plain.{PlainTerm, PlainTerms, variable, apply, no_terms, one_more}
-use Rattle.flattening.specs.Conditions.{count, TermFits, TermsFit}
-use Rattle.flattening.specs.Flattening.{alone, inside, wides, wide, applied, number, arguments, equations, deeper}
-use Rattle.flattening.proofs.Given.{update_same, update_other}
+use Rattle.flattening.specs.Conditions.{count}
+use Rattle.flattening.specs.Flattening.{alone, inside, applied, number, arguments, equations, deeper}
 use Rattle.flattening.proofs.Readings.{plain_reads, nth_reads}
 
 abbrev mutual

@@ -1,11 +1,11 @@
 -- The flattened formula means the formula.
-use Rattle.std.proofs.Common.{ℕ, zero, suc, ◌≡◌, ◌+◌, ◌<◌, ◌≤◌, List, [], ◌∷◌, length, get_or, refl, ap, sym, subst, ◌∙◌, arith, inl, inr, ◌⊎◌}
-use Rattle.std.specs.Prelude.{slice_index, All, Contains, ◌↔◌}
+use Rattle.std.proofs.Common.{ℕ, suc, ◌≡◌, ◌+◌, ◌<◌, List, [], ◌∷◌, length, refl, ap, sym, subst, ◌∙◌, arith, inl, inr, ◌⊎◌}
+use Rattle.std.specs.Prelude.{slice_index, Contains}
 use Rattle.std.proofs.lemmas.Bool.Decides.{eqb_tells}
 use Rattle.std.proofs.lemmas.List.Elements.{All-head, All-tail}
-use Rattle.tree_model.specs.Signatures.{Signature, TreeOver, Alike}
+use Rattle.tree_model.specs.Signatures.{Signature, Alike}
 use Rattle.tree_model.specs.Trees.{at}
-use Rattle.tree_model.specs.Valuations.{Valuation, update}
+use Rattle.tree_model.specs.Valuations.{update}
 use Rattle.tree_facts.proofs.Members.{contains_cases}
 use Rattle.formula_ast.specs.declared.pred.Pred.{Pred}
 use Rattle.formula_ast.specs.Forms.{Form}
@@ -17,11 +17,11 @@ use Rattle.flattening.specs.declared.solved.Key.{Key}
 use Rattle.flattening.specs.Plain.{Plain, always, equal, finite, ask, no, and, exists, plain_of}
 use Rattle.flattening.specs.Tables.{cubes_at}
 use Rattle.flattening.specs.Numbers.{with_numbers, given_ranks, rank_in}
-use Rattle.flattening.specs.Conditions.{count, HasFreeVariables, HasEntries, EntriesMean, FormulaFits, GivesRanks, MeansFormula}
+use Rattle.flattening.specs.Conditions.{count, HasFreeVariables, HasEntries, EntriesMean, MeansFormula}
 use Rattle.flattening.specs.Flattening.{flattened}
 use Rattle.flattening.proofs.Given.{update_same, update_other}
 use Rattle.flattening.proofs.CubesMean.{AllFree}
-use Rattle.flattening.proofs.Meaning.{PlainHolds, IsFree, Below, Meant, coincide, flattened_sound, flattened_complete}
+use Rattle.flattening.proofs.Meaning.{IsFree, Below, Meant, coincide, flattened_sound, flattened_complete}
 use Rattle.flattening.proofs.Bridge.{to_plain, from_plain, free_in}
 
 -- x has the number i + k, where it stands at place k of the list

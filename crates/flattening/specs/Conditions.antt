@@ -1,5 +1,5 @@
 -- What a formula and a table must be like for the flattening to be well numbered and to mean the formula.
-use Rattle.std.specs.Prelude.{◌≡◌, ℕ, ◌+◌, ◌<◌, ◌≤◌, ◌↔◌, List, [], ◌∷◌, length, slice_index, Contains}
+use Rattle.std.specs.Prelude.{◌≡◌, ℕ, ◌+◌, ◌<◌, ◌↔◌, List, [], ◌∷◌, length, slice_index, Contains}
 use Rattle.tree_model.specs.Signatures.{Signature, TreeOver, IsRoot, Alike}
 use Rattle.tree_model.specs.Valuations.{Valuation}
 use Rattle.formula_ast.specs.declared.pred.Pred.{Pred}

@@ -5,7 +5,6 @@
 -- in scope inside: the bound ones of the conjunction are among them, and those of its parts come behind.
 use Rattle.std.specs.Prelude.{ℕ, ◌+◌, ◌-◌, List, [], ◌∷◌, ◌++◌, map, length, slice_index, nat_lt, if◌then◌else◌}
 use Rattle.tree_model.specs.Valuations.{update}
-use Rattle.tree_model.specs.declared.tree.Symbol.{Symbol}
 use Rattle.flat_form.specs.declared.atom.Flat.{Flat}
 use Rattle.flat_form.specs.declared.atom.Flat.TheVariants.{VarVar, VarTerm, Finite}
 use Rattle.flat_form.specs.declared.cube.Part.{Part}

@@ -223,14 +223,23 @@ fn write_normal(shown: &mut String, normal: &Normal) -> Result<(), AllocError> {
     write!(shown, "}}")
 }
 
-fn flattened(alloc: Global, text: &str, ranks: &[usize]) -> Result<String, Fail> {
-    let formula = formula_of(alloc, text)?;
+fn normal_of(alloc: Global, formula: &Formula, ranks: &[usize]) -> Result<Normal, Fail> {
     let ranks = places(alloc, ranks)?;
     let table = table(alloc)?;
-    let normal = flatten(alloc, &formula, &ranks, &table)?;
+    let normal = flatten(alloc, formula, &ranks, &table)?;
+    Ok(normal)
+}
+
+fn shown(alloc: Global, normal: &Normal) -> Result<String, Fail> {
     let mut shown = String::new(alloc);
-    write_normal(&mut shown, &normal.copy(alloc)?)?;
+    write_normal(&mut shown, normal)?;
     Ok(shown)
+}
+
+fn flattened(alloc: Global, text: &str, ranks: &[usize]) -> Result<String, Fail> {
+    let formula = formula_of(alloc, text)?;
+    let normal = normal_of(alloc, &formula, ranks)?;
+    shown(alloc, &normal)
 }
 
 // Each text, with its variables numbered from the last to the first, is flattened as expected.

@@ -12,4 +12,4 @@ returns-clause-normal c =
 pub returns-clause-meaning : goal.returns-clause-meaning
 returns-clause-meaning c =
     means_formula _ _ _ _ (flattening_made (cubes_at c.args.table.now) _ c.args.ranks.now _ _ _ _ _ c.none_of.ensures c.in_ok-parts.ensures c.in_ok-part.ensures.normal
-        c.in_ok-given.ensures c.len.ensures)
+    c.in_ok-given.ensures c.len.ensures)

@@ -1,4 +1,4 @@
-use Rattle.std.proofs.Common.{sym, ◌∙◌}
+use Rattle.std.proofs.Common.{◌∙◌}
 use Rattle.flattening.proofs.Given.{number_hit, number_miss}
 use Rattle.flattening.proofs.numbers.Numbers.of.Goals.{then-pair-variable, else-pair-variable}
 use Rattle.flattening.proofs.numbers.Numbers.of.Goals as goal

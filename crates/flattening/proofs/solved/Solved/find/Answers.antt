@@ -1,4 +1,4 @@
-use Rattle.std.proofs.Common.{sym, ◌∙◌}
+use Rattle.std.proofs.Common.{◌∙◌}
 use Rattle.flattening.proofs.Table.{stands_exactly, found_first, none_first}
 use Rattle.flattening.proofs.solved.Solved.find.Goals as goal
 
