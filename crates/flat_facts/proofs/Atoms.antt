@@ -3,7 +3,7 @@ use Rattle.std.proofs.Common.{ℕ, List, [], map, subst}
 use Rattle.std.specs.Prelude.{Contains}
 use Rattle.tree_model.specs.Signatures.{Signature, Alike}
 use Rattle.tree_model.specs.Valuations.{Valuation}
-use Rattle.tree_model.proofs.OneTree.{finite_same}
+use Rattle.tree_model.proofs.Sameness.{finite_same}
 use Rattle.tree_facts.specs.Equations.{equals_variable, equals_term}
 use Rattle.tree_facts.proofs.Equations.{equation_moves}
 use Rattle.tree_facts.proofs.Members.{contains_first}

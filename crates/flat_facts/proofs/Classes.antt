@@ -7,7 +7,7 @@ use Rattle.tree_model.specs.declared.tree.Symbol.{Symbol}
 use Rattle.tree_model.specs.Signatures.{Signature, Alike}
 use Rattle.tree_model.specs.Trees.{IsFinite}
 use Rattle.tree_model.specs.Valuations.{Valuation}
-use Rattle.tree_model.proofs.OneTree.{finite_same}
+use Rattle.tree_model.proofs.Sameness.{finite_same}
 use Rattle.tree_facts.specs.FiniteLaws.{IsSubtree}
 use Rattle.tree_facts.proofs.Equations.{arguments_compose}
 use Rattle.tree_facts.proofs.Finite.{subtree_finite, own_subtree_infinite}

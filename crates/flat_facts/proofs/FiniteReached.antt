@@ -9,7 +9,7 @@ use Rattle.tree_model.specs.Graphs.{Graph}
 use Rattle.tree_model.specs.Signatures.{Signature}
 use Rattle.tree_model.specs.Trees.{at, IsFinite}
 use Rattle.tree_model.specs.Valuations.{Valuation}
-use Rattle.tree_model.proofs.OneTree.{finite_same}
+use Rattle.tree_model.proofs.Sameness.{finite_same}
 use Rattle.tree_facts.specs.Walks.{Branches}
 use Rattle.tree_facts.proofs.NoRound.{none_comes_round}
 use Rattle.flat_form.specs.declared.atom.Flat.{Flat}

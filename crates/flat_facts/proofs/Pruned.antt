@@ -7,7 +7,7 @@ use Rattle.tree_model.specs.declared.tree.Symbol.{Symbol}
 use Rattle.tree_model.specs.Signatures.{Signature, TreeOver, Alike}
 use Rattle.tree_model.specs.Trees.{at, IsFinite}
 use Rattle.tree_model.specs.Valuations.{Valuation}
-use Rattle.tree_model.proofs.OneTree.{finite_same}
+use Rattle.tree_model.proofs.Sameness.{finite_same}
 use Rattle.tree_model.proofs.Stability.{read_stable}
 use Rattle.tree_facts.specs.Equations.{equals_variable, equals_term, Solves}
 use Rattle.tree_facts.specs.Indexes.{constant}

@@ -10,7 +10,7 @@ use Rattle.tree_model.specs.Graphs.{Graph}
 use Rattle.tree_model.specs.Signatures.{Signature, Alike}
 use Rattle.tree_model.specs.Trees.{IsFinite}
 use Rattle.tree_model.specs.Valuations.{Valuation}
-use Rattle.tree_model.proofs.OneTree.{finite_same}
+use Rattle.tree_model.proofs.Sameness.{finite_same}
 use Rattle.tree_facts.specs.FiniteLaws.{IsSubtree}
 use Rattle.tree_facts.specs.Walks.{Branches}
 use Rattle.tree_facts.proofs.Finite.{subtree_finite, own_subtree_infinite}

@@ -1,1 +1,2 @@
 pub mod Stable
+pub mod Ties

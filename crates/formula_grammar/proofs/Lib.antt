@@ -22,5 +22,11 @@ pub mod UniqueWords
 pub mod Walks
 pub mod WellKept
 pub mod Lengths
-pub mod Behind
 pub mod Outcomes
+pub mod WordKinds
+pub mod WrittenWords
+pub mod Occurrences
+pub mod FormedTerms
+pub mod FormedFormulas
+pub mod Declarations
+pub mod FormedFiles

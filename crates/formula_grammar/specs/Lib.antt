@@ -9,3 +9,4 @@ pub mod Lawful
 pub mod Meaning
 pub mod Reading
 pub mod ReadingLaws
+pub mod WellFormedLaws

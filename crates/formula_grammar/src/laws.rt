@@ -1,5 +1,6 @@
 ghost use Rattle.formula_grammar.specs.GrammarLaws.{OneFileReading, OneFormulaReading, FileFaultsStandRight, FormulaFaultsStandRight, FaultlessFilesRead, FaultlessFormulasRead};
 ghost use Rattle.formula_grammar.specs.ReadingLaws.{LawfulFilesAreFaultless, LawfulFormulasAreFaultless, NeverBoth, OneFault, NeverBothOfFormula};
+ghost use Rattle.formula_grammar.specs.WellFormedLaws.{FilesAreWellFormed};
 
 /// The first fault stands where the grammar alone says: an unfinished input at its end, a word that no whole text has
 /// there at this word, and every other fault behind a front of a whole text. A text without a fault is a whole text. A
@@ -30,4 +31,10 @@ pub fn at_most_one_outcome()
     ensures never_both { NeverBoth }
     ensures one_fault { OneFault }
     ensures formulas { NeverBothOfFormula }
+{}
+
+/// A text that reads as a file makes a well formed file: its names, symbols, calls and variables are as a text may declare
+/// and use them. A law: it does nothing when it runs.
+pub fn files_are_well_formed()
+    ensures files { FilesAreWellFormed }
 {}

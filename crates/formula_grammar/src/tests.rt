@@ -7,4 +7,5 @@ fn laws_can_be_called(_rt: HostRuntime) {
     at_most_one_reading();
     lawful_is_faultless();
     at_most_one_outcome();
+    files_are_well_formed();
 }

@@ -9,7 +9,7 @@ use Rattle.tree_model.specs.Graphs.{Graph}
 use Rattle.tree_model.specs.Signatures.{Signature, Alike}
 use Rattle.tree_model.specs.Trees.{IsFinite}
 use Rattle.tree_model.specs.Valuations.{Valuation}
-use Rattle.tree_model.proofs.OneTree.{finite_same}
+use Rattle.tree_model.proofs.Sameness.{finite_same}
 use Rattle.tree_facts.specs.Equations.{Equation, equals_variable, equals_term, variables_of, Solves, IsParameter, HasDistinctLefts}
 use Rattle.tree_facts.specs.Walks.{Reaches, here, by_equal, by_argument, IsBelow, Branches}
 use Rattle.tree_facts.specs.WalkLaws.{ReachedStandsInside, BelowStandsInside, RoundIsInfinite, FiniteWhereWalksEnd}
