@@ -22,6 +22,7 @@ pub mod UniqueWords
 pub mod Walks
 pub mod WellKept
 pub mod Lengths
+pub mod Behind
 pub mod Outcomes
 pub mod WordKinds
 pub mod WrittenWords

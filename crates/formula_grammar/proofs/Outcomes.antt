@@ -1,6 +1,5 @@
 -- A text reads, or has one first fault.
 use Rattle.std.proofs.Common.{◌≡◌, ℕ, suc, List, [], ◌∷◌, ◌++◌, length, All, Option, Some, None, refl, sym, ◌∙◌, ap, subst, arith}
-use Rattle.std.proofs.lemmas.List.{length-append}
 use Rattle.std.proofs.lemmas.List.Elements.{All-head, All-tail}
 use Rattle.formula_ast.specs.declared.token.Token.{Token}
 use Rattle.formula_ast.specs.declared.file.File.{File}
@@ -16,6 +15,7 @@ use Rattle.formula_grammar.specs.Reading.{IsWritten, IsBuilt, ReadsAs, StopsAt, 
 use Rattle.formula_grammar.specs.ReadingLaws.{NeverBoth, OneFault, NeverBothOfFormula}
 use Rattle.formula_grammar.proofs.Unique.{one_file_reading}
 use Rattle.formula_grammar.proofs.Faultless.{lawful_files, lawful_formulas}
+use Rattle.formula_grammar.proofs.Behind.{one_behind_another}
 use Rattle.formula_grammar.proofs.Lengths.{length_is, parts_length}
 
 -- ---- the words of a text
@@ -66,23 +66,14 @@ one_front (z ∷ xs) (u ∷ ys) x y us vs e a b m n =
     let others : (xs ++ x ∷ us) ≡ (ys ++ y ∷ vs) = cc e in
     let h : xs ≡ ys = one_front xs ys x y us vs others (All-tail IsBuilt z xs a) (All-tail IsBuilt u ys b) m n in cc
 
-same_rest : (xs ys us vs : List WrittenStatement) → xs ≡ ys → (xs ++ us) ≡ (ys ++ vs) → us ≡ vs
-same_rest [] [] us vs e h = h
-same_rest [] (y ∷ ys) us vs e h = cc
-same_rest (x ∷ xs) [] us vs e h = cc
-same_rest (x ∷ xs) (y ∷ ys) us vs e h =
-    let tails : xs ≡ ys = cc e in let others : (xs ++ us) ≡ (ys ++ vs) = cc h in same_rest xs ys us vs tails others
-
--- equally many words stand before equally many
-same_front : (ws vs us ts : List Word) → length (ws ++ us) ≡ length (vs ++ ts) → length us ≡ length ts → length ws ≡ length vs
-same_front ws vs us ts whole rest =
-    let a = length-append ws us in let b = length-append vs ts in omega (arith, a, b, whole, rest)
-
 -- ---- texts that stop at a statement
 
 module _ (bytes : List ℕ) where
+  whole : {offset : ℕ} (s : StopsAt bytes offset) → IsFile (s.before ++ s.words) (s.first ++ s.statement ∷ s.others)
+  whole s = one_behind_another (s.statement ∷ s.others) s.first s.front s.rest
+
   stop_is_faultless : {offset : ℕ} → StopsAt bytes offset → file_fault bytes ≡ None
-  stop_is_faultless s = (lawful_files bytes s.words (s.first ++ s.statement ∷ s.others) s.written s.whole).1 s.lawful
+  stop_is_faultless s = (lawful_files bytes (s.before ++ s.words) (s.first ++ s.statement ∷ s.others) s.written (whole s)).1 s.lawful
 
   read_is_faultless : (file : File) → ReadsAs bytes file → file_fault bytes ≡ None
   read_is_faultless file r = (lawful_files bytes r.words r.statements r.written r.grammar).1 r.lawful
@@ -96,19 +87,17 @@ module _ (bytes : List ℕ) where
   read_never_stops : {offset : ℕ} (file : File) → ReadsAs bytes file → StopsAt bytes offset → ⊥
   read_never_stops file r s =
       let same : r.statements ≡ (s.first ++ s.statement ∷ s.others) =
-      same_statements r.words s.words r.statements (s.first ++ s.statement ∷ s.others) r.written s.written r.grammar s.whole in
+      same_statements r.words (s.before ++ s.words) r.statements (s.first ++ s.statement ∷ s.others) r.written s.written r.grammar (whole s) in
       s.not_built (built_within s.first s.statement s.others (subst (λ xs. All IsBuilt xs) same r.built))
 
   one_stop : {offset other : ℕ} → StopsAt bytes offset → StopsAt bytes other → offset ≡ other
   one_stop a b =
       let same : (a.first ++ a.statement ∷ a.others) ≡ (b.first ++ b.statement ∷ b.others) =
-      same_statements a.words b.words (a.first ++ a.statement ∷ a.others) (b.first ++ b.statement ∷ b.others)
-      a.written b.written a.whole b.whole in
+      same_statements (a.before ++ a.words) (b.before ++ b.words) (a.first ++ a.statement ∷ a.others) (b.first ++ b.statement ∷ b.others)
+      a.written b.written (whole a) (whole b) in
       let front : a.first ≡ b.first = one_front a.first b.first a.statement b.statement a.others b.others same a.built b.built a.not_built b.not_built in
       let long : length a.before ≡ length b.before =
-      same_front a.before b.before a.from_here b.from_here
-      (ap (λ ws. length ws) (sym a.split) ∙ length_is a.whole ∙ ap (λ xs. parts_length (g.file xs ∷ [])) same ∙ sym (length_is b.whole) ∙ ap (λ ws. length ws) b.split)
-      (length_is a.rest ∙ ap (λ xs. parts_length (g.file xs ∷ [])) (same_rest a.first b.first _ _ front same) ∙ sym (length_is b.rest)) in
+      length_is a.front ∙ ap (λ xs. parts_length (g.file xs ∷ [])) front ∙ sym (length_is b.front) in
       let place : token a.t a.more ≡ token b.t b.more =
       same_place bytes (tokens_at bytes 0) a.before b.before (token a.t a.more) (token b.t b.more) a.place b.place long in
       let same_token : a.t ≡ b.t = cc place in

@@ -66,27 +66,23 @@ pub record ReadsAs (bytes : List ℕ) (file : File) : Type 0 where
   pub makes : Makes file [] [] [] statements
   pub built : All IsBuilt statements
 
--- the text reads as a file but for a statement that is not answered yet, the first of these, whose first token stands at
--- this offset
+-- the text reads as a file but for a statement that is not answered yet, whose first token stands at this offset
 pub record StopsAt (bytes : List ℕ) (offset : ℕ) : Type 0 where
-  pub words : List Word
-  pub written : IsWritten bytes words
-  pub first : List WrittenStatement
-  pub statement : WrittenStatement
-  pub others : List WrittenStatement
-  pub whole : grammar.IsFile words (first ++ statement ∷ others)
-  pub lawful : AreLawful [] (first ++ statement ∷ others)
-  pub built : All IsBuilt first
-  pub not_built : ¬ IsBuilt statement
-  -- from its first token on, the words read as the statement and those behind it
   pub before : List Word
-  pub from_here : List Word
-  pub split : words ≡ before ++ from_here
-  pub rest : grammar.IsFile from_here (statement ∷ others)
+  pub first : List WrittenStatement
+  pub front : grammar.IsFile before first
   pub t : Token
   pub more : Stream
   pub place : BeginsWith bytes (tokens_at bytes 0) before (token t more)
   pub offset_is : t.from ≡ offset
+  pub words : List Word
+  pub written : IsWritten bytes (before ++ words)
+  pub statement : WrittenStatement
+  pub others : List WrittenStatement
+  pub rest : grammar.IsFile words (statement ∷ others)
+  pub lawful : AreLawful [] (first ++ statement ∷ others)
+  pub built : All IsBuilt first
+  pub not_built : ¬ IsBuilt statement
 
 -- the first fault of a text as a file: what is not answered yet counts behind all others
 pub data IsFirstFault (bytes : List ℕ) : Fault → Type 0 where
