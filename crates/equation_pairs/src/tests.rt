@@ -6,7 +6,7 @@ use std::test::*;
 use tree_model::Symbol;
 
 // What a letter stands for: a small one for a symbol, with its number of arguments, of which `p`, `q` and `r` are one
-// further symbol; a capital one for none, since it is a variable.
+// further symbol, and `s` is another; a capital one for none, since it is a variable.
 fn symbol_of(letter: u8) -> Option<(Symbol, usize)> {
     match letter {
         b'a' => Some((Symbol::Named(0), 0)),
@@ -17,6 +17,7 @@ fn symbol_of(letter: u8) -> Option<(Symbol, usize)> {
         b'p' => Some((Symbol::Further(0), 0)),
         b'q' => Some((Symbol::Further(0), 1)),
         b'r' => Some((Symbol::Further(0), 2)),
+        b's' => Some((Symbol::Further(7), 1)),
         _ => None,
     }
 }
@@ -90,6 +91,8 @@ fn cyclic_systems_are_solved(rt: HostRuntime) -> Result<(), Fail> {
             false,
             "a further symbol with one argument and with two",
         ),
+        ("AsA", true, "a loop through a further symbol"),
+        ("qAsA", false, "two further symbols"),
         ("qaqb", false, "a clash below equal symbols"),
         ("hABChBCAAaBaCa", true, "arguments in a ring"),
         ("hABChBCAAaBbCC", false, "arguments in a ring that clash"),

@@ -1,4 +1,5 @@
 pub mod Added
+pub mod Beside
 pub mod Classes
 pub mod Fitting
 pub mod Laws

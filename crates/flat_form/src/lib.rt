@@ -6,12 +6,14 @@ mod atom;
 mod cube;
 mod laws;
 mod normal;
+mod solved;
 
 pub use args::Args;
 pub use atom::{Basic, Flat};
 pub use cube::{Cube, Cubes, Part, Parts};
 pub use laws::meanings_are_stable;
 pub use normal::{Normal, Normals};
+pub use solved::is_solved;
 
 #[cfg(test)]
 mod tests;

@@ -127,3 +127,35 @@ fn nested_negations_are_kept_and_copied(rt: HostRuntime) -> Result<(), Fail> {
     assert_eq!(rt; whole.parts.get(1).parts.len(), 0);
     Ok(())
 }
+
+// A list of an equation of variable 0 with a symbol applied to variable `argument`, then one of variable 1 with variable
+// `right`, then that variable 2 is finite.
+fn list(alloc: Global, argument: usize, right: usize) -> Result<Basic, NoMemory> {
+    let mut args = Args::new(alloc);
+    args.push(argument)?;
+    let mut basic = Basic::new(alloc);
+    basic.push(Flat::VarTerm(0, Symbol::Named(4), args))?;
+    basic.push(Flat::VarVar(1, right))?;
+    basic.push(Flat::Finite(2))?;
+    Ok(basic)
+}
+
+#[test]
+fn solved_lists_are_told(rt: HostRuntime) -> Result<(), Fail> {
+    assert!(rt; is_solved(&Basic::new(rt.alloc())));
+    assert!(rt; is_solved(&list(rt.alloc(), 2, 0)?));
+    assert!(rt; is_solved(&list(rt.alloc(), 0, 0)?));
+    assert!(rt;
+        !is_solved(&list(rt.alloc(), 1, 0)?),
+        "an argument that equals another variable"
+    );
+    assert!(rt;
+        !is_solved(&list(rt.alloc(), 2, 2)?),
+        "a greater variable on the right"
+    );
+    assert!(rt;
+        !is_solved(&three_atoms(rt.alloc())?),
+        "variables out of order"
+    );
+    Ok(())
+}

@@ -1,9 +1,7 @@
-pub mod Extending
-pub mod Fitting
-pub mod Form
-pub mod Grammar
 pub mod Input
-pub mod Laws
-pub mod Reading
-pub mod Written
-pub mod WrittenAs
+pub mod Faults
+pub mod Reads
+pub mod Heads
+pub mod Compared
+pub mod Joints
+pub mod Refusals

@@ -1,82 +1,71 @@
-// Reads a whole file.
-ghost use Rattle.std.specs.Prelude.{◌≡◌, List, ◌∷◌, IfOk, IfErr, OnOk};
-ghost use Rattle.formula_reader.specs.Form.{HasEquations};
-ghost use Rattle.formula_reader.specs.Grammar as g;
-ghost use Rattle.formula_reader.specs.Grammar.{Derives};
-ghost use Rattle.formula_reader.specs.Written.{Written};
-ghost use Rattle.formula_reader.specs.Input.{left_of};
-ghost use Rattle.formula_reader.specs.Extending.{Adds, Extends};
-ghost use Rattle.formula_reader.specs.Reading.{ReadsAs, IsFirstFault, IsRefusedWith};
+// Reads whole texts.
+ghost use Rattle.std.specs.Prelude.{◌≡◌, Some, IfOk, IfErr};
+ghost use Rattle.formula_ast.specs.WellFormed.{IsWellFormed};
+ghost use Rattle.formula_grammar.specs.FirstFault.{formula_fault};
+ghost use Rattle.formula_grammar.specs.Reading.{ReadsAs, ReadsAsFormula, IsFirstFault};
+ghost use Rattle.formula_reader.specs.Refusals.{IsRefusedWith};
 
-use crate::building::declare_all;
+use crate::ReadError;
+use crate::error::refused;
+use crate::place::Place;
 use crate::reader::Reader;
-use crate::written::Stop;
-use crate::{Fault, FaultKind, ReadError};
-use formula_ast::{File, Preds, Statements};
-use formula_tokens::TokenKind;
+use formula_ast::{File, Preds, Statement, Statements};
+use formula_grammar::FaultKind;
 use signature::Signature;
 use std::alloc::Global;
 
 /// The greatest number of bytes that a file may have.
 pub const MOST_BYTES: usize = 1_048_576;
 
-fn refused(offset: usize) -> ReadError
-    ensures { result ≡ ReadError.Refused (record { offset = offset; kind = FaultKind.NotBuilt }) }
-{
-    ReadError::Refused(Fault {
-        offset,
-        kind: FaultKind::NotBuilt,
-    })
-}
-
-// Reads the next statement into the file.
-fn add_statement(alloc: Global, reader: &mut Reader<'_>, file: &mut File) -> Result<(), Stop>
-    ensures adds { OnOk result (Adds reader.old reader.new file.old file.new) }
-    ensures outside { result ≡ Err Stop.NotBuilt → (written : Written) (s : List g.Part) (more : File)
-        → Derives reader.old.bytes (g.statement written ∷ s) (left_of reader.old) → ¬ Extends file.old written more }
-    ensures bytes { reader.new.bytes ≡ reader.old.bytes }
-{
-    if file.solves.len() > 0 {
-        return Err(Stop::NotBuilt);
-    }
-    if reader.skip(TokenKind::Symbol) {
-        let declarations = reader.declarations(alloc)?;
-        declare_all(&mut file.signature, &declarations)?;
-        return Ok(());
-    }
-    reader.expect(TokenKind::Solve)?;
-    let statement = reader.question(alloc, &file.signature)?;
-    reader.expect(TokenKind::Stop)?;
-    match file.solves.push(statement) {
-        Ok(()) => Ok(()),
-        Err(_) => Err(Stop::NoMemory),
-    }
-}
-
-/// Reads a file: any number of declarations of symbols, and then at most one equation of terms, or several in
-/// parentheses joined by `&`, behind an existential quantifier that binds all their variables. Every other text is
-/// refused as not built, at its first statement that is none of these; and one of more than `MOST_BYTES` bytes behind
-/// them.
+/// Reads a file: declarations of symbols, definitions of predicates, and questions. What is not answered yet is refused as
+/// not built, at its first statement, behind every other fault.
 pub fn read_file(alloc: Global, bytes: &[u8]) -> Result<File, ReadError>
     ensures file { IfOk result (λ file. ReadsAs bytes.now file) }
-    ensures equations { IfOk result (λ file. HasEquations file) }
+    ensures well_formed { IfOk result (λ file. IsWellFormed file) }
     ensures refused { IfErr result (λ error. IsRefusedWith error (λ fault. IsFirstFault bytes.now fault)) }
 {
     if bytes.len() > MOST_BYTES {
-        return Err(refused(MOST_BYTES));
+        return Err(refused(MOST_BYTES, FaultKind::Limit));
     }
-    let mut reader = Reader::new(bytes);
+    let mut reader = Reader::new(alloc, bytes);
     let mut file = File {
         signature: Signature::new(alloc),
         preds: Preds::new(alloc),
         solves: Statements::new(alloc),
     };
-    'statements: while let Some(offset) = reader.goes_on_at() {
-        match add_statement(alloc, &mut reader, &mut file) {
-            Ok(()) => {}
-            Err(Stop::NotBuilt) => return Err(refused(offset)),
-            Err(Stop::NoMemory) => return Err(ReadError::NoMemory),
+    let mut not_built = None;
+    'statements: while let Some(offset) = reader.next_offset() {
+        let built = reader.statement(alloc, &mut file)?;
+        if !built && not_built.is_none() {
+            not_built = Some(offset);
         }
     }
-    Ok(file)
+    reader.finish()?;
+    match not_built {
+        None => Ok(file),
+        Some(offset) => Err(refused(offset, FaultKind::NotBuilt)),
+    }
+}
+
+/// Reads one formula up to the end of the bytes, with the names of a signature declared.
+pub fn read_formula(alloc: Global, sig: &Signature, bytes: &[u8]) -> Result<Statement, ReadError>
+    ensures formula { IfOk result (λ statement. ReadsAsFormula sig.now bytes.now statement) }
+    ensures refused { IfErr result (λ error. IsRefusedWith error (λ fault. formula_fault sig.now bytes.now ≡ Some fault)) }
+{
+    if bytes.len() > MOST_BYTES {
+        return Err(refused(MOST_BYTES, FaultKind::Limit));
+    }
+    let mut reader = Reader::new(alloc, bytes);
+    let place = Place {
+        depth: 0,
+        bound: &[],
+        closed: false,
+    };
+    let body = reader.formula(alloc, sig, place)?;
+    reader.finish()?;
+    let names = reader.into_names();
+    Ok(Statement {
+        names,
+        body: body.formula,
+    })
 }

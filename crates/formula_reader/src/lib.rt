@@ -1,19 +1,21 @@
-//! Reads files: which texts are files of the form that is read, which file each is, and where each other text is
-//! refused.
+//! Reads files and formulas: which text is which file or formula, and where each other text is refused.
 #![tactic(auto)]
 
-mod building;
-mod fault;
+mod atoms;
+mod checks;
+mod error;
 mod file_reader;
-mod laws;
-mod questions;
+mod formulas;
+mod parsed;
+mod place;
 mod reader;
+mod statements;
 mod terms;
 #[cfg(test)]
 mod tests;
-mod written;
+mod words;
 
-pub use fault::{Fault, FaultKind, ReadError};
-pub use file_reader::{MOST_BYTES, read_file};
+pub use error::ReadError;
+pub use file_reader::{MOST_BYTES, read_file, read_formula};
+pub use formula_grammar::{Fault, FaultKind};
 pub use formula_tokens::{Token, TokenKind, next_token};
-pub use laws::at_most_one_outcome;

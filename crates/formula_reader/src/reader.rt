@@ -1,35 +1,54 @@
-// Reads tokens and lists of words.
-ghost use Rattle.std.specs.Prelude.{◌≡◌, ◌≤◌, map, length, slice_range, MatchBool, OnErr, IfOk, IfErr, IfNone, IfSome, MatchOption};
+// Reads token by token, and keeps what is wrong with the next one until it is taken.
+ghost use Rattle.std.specs.Prelude.{◌≡◌, ◌≤◌, ◌<◌, [], ◌∷◌, false, None, suc, nat_lt, length, slice_range, IsTrue, IfOk, IfErr, OnOk, MatchOption};
 ghost use Rattle.std.specs.Str.{IsAscii};
-ghost use Rattle.formula_ast.specs.Tokens.{end};
-ghost use Rattle.formula_reader.specs.Grammar as g;
-ghost use Rattle.formula_reader.specs.Grammar.{Reads, NoneReads};
-ghost use Rattle.formula_reader.specs.Input.{left_of, StartsWith, Takes, TakesSome};
-ghost use Rattle.formula_reader.specs.Reading.{GoesOnAt};
-ghost use Rattle.formula_reader.specs.WrittenAs.{declaration_of, texts_of};
+ghost use Rattle.tree_model.specs.Signatures.{Signature as Entries};
+ghost use Rattle.formula_ast.specs.Tokens.{Stream, token};
+ghost use Rattle.formula_ast.specs.declared.token.Token.{Token};
+ghost use Rattle.formula_grammar.specs.Grammar as grammar;
+ghost use Rattle.formula_grammar.specs.Checks as g;
+ghost use Rattle.formula_grammar.specs.Checks.{check};
+ghost use Rattle.formula_grammar.specs.Machine as m;
+ghost use Rattle.formula_reader.specs.Input.{IsPlace, left_of, starts, text_ahead, environment, place_of};
+ghost use Rattle.formula_reader.specs.Faults.{fault_of, Faults, FaultsAs, at_next, Takes, KeepsNames, Stops};
+ghost use Rattle.formula_reader.specs.Reads.{Reads};
 
-use crate::written::{Declaration, Stop};
+use crate::ReadError;
+use crate::checks::{sooner, when};
+use crate::error::refused;
+use crate::place::Place;
+use formula_ast::Names;
+use formula_grammar::FaultKind;
 use formula_tokens::{Token, TokenKind, next_token};
 use std::alloc::Global;
 use std::marker::Model;
 use std::str;
+
+/// How many nestings may stand within one another.
+const MOST_NESTINGS: usize = 200;
 
 /// A text, and the offset behind the tokens that were taken.
 #[derive(Drop)]
 pub(crate) struct Reader<'a> {
     bytes: &'a [u8],
     at: usize,
+    // What is wrong with the next token, if the grammar allows it.
+    pending: Option<FaultKind>,
+    // How many `&`, `|` and variables of quantifiers the statement has so far.
+    pub(crate) joints: usize,
+    // The names of the statement's variables so far, and whether one of them stands where nothing binds it.
+    pub(crate) names: Names,
+    pub(crate) loose: bool,
 }
 
 impl<'a> Model for Reader<'a> {
     ghost use Rattle.std.specs.Prelude.{◌≤◌, length};
-    ghost use Rattle.formula_reader.specs.Input.{Input};
+    ghost use Rattle.formula_reader.specs.Input.{Input, IsPlace};
 
     ghost Value = { Input };
 
-    ghost view = { λ r. record { bytes = r.bytes.now; at = r.at } };
+    ghost view = { λ r. record { bytes = r.bytes.now; at = r.at; pending = r.pending; joints = r.joints; names = r.names; loose = r.loose } };
 
-    ghost invariant = { λ r. r.at ≤ length r.bytes.now };
+    ghost invariant = { λ r. (r.at ≤ length r.bytes.now) × (r.joints ≤ 1000) × IsPlace r.bytes.now r.at };
 }
 
 // The text of a token.
@@ -45,111 +64,145 @@ fn text_of<'a>(bytes: &'a [u8], token: Token) -> &'a str
 }
 
 impl<'a> Reader<'a> {
-    pub(crate) fn new(bytes: &'a [u8]) -> Reader<'a>
-        ensures { result ≡ record { bytes = bytes.now; at = 0 } }
+    pub(crate) fn new(alloc: Global, bytes: &'a [u8]) -> Reader<'a>
+        ensures { result ≡ record { bytes = bytes.now; at = 0; pending = None; joints = 0; names = []; loose = false } }
     {
-        Reader { bytes, at: 0 }
+        Reader {
+            bytes,
+            at: 0,
+            pending: None,
+            joints: 0,
+            names: Names::new(alloc),
+            loose: false,
+        }
     }
 
-    // Where the first byte stands that is neither blank nor in a comment, if there is one.
-    pub(crate) fn goes_on_at(&self) -> Option<usize>
-        ensures { MatchOption result (left_of self.now ≡ end (length self.now.bytes)) (λ offset. GoesOnAt offset (left_of self.now)) }
+    // Whether the next token is of this kind.
+    pub(crate) fn sees(&self, kind: TokenKind) -> bool
+        ensures { result ≡ starts kind (left_of self.now) }
     {
         match next_token(self.bytes, self.at) {
-            Ok(None) => None,
+            Ok(Some(token)) => token.kind == kind,
+            _ => false,
+        }
+    }
+
+    // The text of the next token, of this kind.
+    pub(crate) fn text(&self, kind: TokenKind) -> &'a str
+        requires { IsTrue (starts kind (left_of self.now)) }
+        ensures { result.now ≡ text_ahead self.now.bytes (left_of self.now) }
+    {
+        match next_token(self.bytes, self.at) {
+            Ok(Some(token)) => text_of(self.bytes, token),
+            _ => unreachable!(),
+        }
+    }
+
+    // The fault of the next token, or of the end or the byte that stands there.
+    pub(crate) fn fault(&self, kind: FaultKind) -> ReadError
+        ensures { result ≡ ReadError.Refused (at_next kind (left_of self.now)) }
+    {
+        match next_token(self.bytes, self.at) {
+            Ok(Some(token)) => refused(token.from, kind),
+            Ok(None) => refused(self.bytes.len(), FaultKind::Ended),
+            Err(offset) => refused(offset, FaultKind::Byte),
+        }
+    }
+
+    // Takes the next token, of this kind, unless something is wrong with it.
+    pub(crate) fn take(
+        &mut self,
+        kind: TokenKind,
+        wrong: Option<FaultKind>,
+    ) -> Result<(), ReadError>
+        requires { IsTrue (starts kind (left_of self.old)) }
+        ensures takes { OnOk result (Takes wrong self.old self.new) }
+        ensures keeps { OnOk result (KeepsNames self.old self.new) }
+        ensures stops { IfErr result (λ error. Stops wrong self.old error) }
+        ensures on { OnOk result (self.old.at < self.new.at) }
+    {
+        if let Some(found) = sooner(self.pending, wrong) {
+            return Err(self.fault(found));
+        }
+        match next_token(self.bytes, self.at) {
+            Ok(Some(token)) => {
+                self.at = token.to;
+                self.pending = None;
+                Ok(())
+            }
+            _ => unreachable!(),
+        }
+    }
+
+    // This is wrong with the next token, if the grammar allows it.
+    pub(crate) fn complain(&mut self, wrong: Option<FaultKind>)
+        ensures { self.new ≡ record self.old { pending = g.sooner self.old.pending wrong } }
+    {
+        self.pending = sooner(self.pending, wrong);
+    }
+
+    // Takes a token of this kind.
+    pub(crate) fn expect(&mut self, kind: TokenKind) -> Result<(), ReadError>
+        ensures faults { (σ : Entries) → FaultsAs (m.mark kind) result σ self.old self.new }
+        ensures reads { OnOk result (Reads (grammar.mark kind) self.old self.new) }
+        ensures taken { OnOk result ((self.old.pending ≡ None) × (self.new.pending ≡ None) × (self.new.joints ≡ self.old.joints)) }
+        ensures keeps { OnOk result (KeepsNames self.old self.new) }
+        ensures bytes { OnOk result (self.new.bytes ≡ self.old.bytes) }
+        ensures on { OnOk result (self.old.at < self.new.at) }
+    {
+        if self.sees(kind) {
+            self.take(kind, None)
+        } else {
+            Err(self.fault(FaultKind::Syntax))
+        }
+    }
+
+    // Takes a token that opens a nesting, and tells where the reader is then.
+    pub(crate) fn open<'s>(
+        &mut self,
+        kind: TokenKind,
+        place: Place<'s, 'a>,
+    ) -> Result<Place<'s, 'a>, ReadError>
+        requires starts { IsTrue (starts kind (left_of self.old)) }
+        requires depth { place.depth ≤ 200 }
+        ensures takes { OnOk result (Takes (g.first_of ((nat_lt 200 (suc place.entry.depth), FaultKind.Limit) ∷ [])) self.old self.new) }
+        ensures keeps { OnOk result (KeepsNames self.old self.new) }
+        ensures inner { IfOk result (λ inner. (place_of inner ≡ m.deeper (place_of place.entry)) × (inner.depth ≤ 200)) }
+        ensures stops { IfErr result (λ error. Stops (g.first_of ((nat_lt 200 (suc place.entry.depth), FaultKind.Limit) ∷ [])) self.old error) }
+        ensures on { OnOk result (self.old.at < self.new.at) }
+    {
+        let depth = place.depth + 1;
+        self.take(kind, when(depth > MOST_NESTINGS, FaultKind::Limit))?;
+        Ok(Place { depth, ..place })
+    }
+
+    // Where the next token begins, if there is one.
+    pub(crate) fn next_offset(&self) -> Option<usize>
+        ensures token { MatchOption result ((t : Token) (more : Stream) → ¬ (left_of self.now ≡ token t more))
+            (λ offset. (t : Token) × (more : Stream) × (left_of self.now ≡ token t more) × (t.from ≡ offset)) }
+        ensures place { IsPlace self.now.bytes self.now.at }
+    {
+        match next_token(self.bytes, self.at) {
             Ok(Some(token)) => Some(token.from),
-            Err(offset) => Some(offset),
+            _ => None,
         }
     }
 
-    // Takes the next token, if it is of this kind.
-    pub(crate) fn take(&mut self, kind: TokenKind) -> Option<&'a str>
-        ensures took { IfSome result (λ text. Takes kind text.now self.old self.new) }
-        ensures other { IfNone result ((self.new ≡ self.old) × (¬ StartsWith kind (left_of self.old))) }
+    // Nothing is left, and nothing was wrong with that.
+    pub(crate) fn finish(&self) -> Result<(), ReadError>
+        ensures { (σ : Entries) → Faults result (fault_of σ self.now []) None }
     {
-        let Ok(Some(token)) = next_token(self.bytes, self.at) else {
-            return None;
-        };
-        if token.kind != kind {
-            return None;
-        }
-        self.at = token.to;
-        Some(text_of(self.bytes, token))
-    }
-
-    // Takes the next token, if it is of this kind, and says whether it was.
-    pub(crate) fn skip(&mut self, kind: TokenKind) -> bool
-        ensures { MatchBool result (TakesSome kind self.old self.new) ((self.new ≡ self.old) × (¬ StartsWith kind (left_of self.old))) }
-    {
-        match self.take(kind) {
-            Some(_) => true,
-            None => false,
+        match (next_token(self.bytes, self.at), self.pending) {
+            (Ok(None), None) => Ok(()),
+            (Ok(None), Some(found)) => Err(refused(self.bytes.len(), found)),
+            _ => Err(self.fault(FaultKind::Syntax)),
         }
     }
 
-    // Takes the next token, which has to be of this kind.
-    pub(crate) fn expect(&mut self, kind: TokenKind) -> Result<&'a str, Stop>
-        ensures took { IfOk result (λ text. Takes kind text.now self.old self.new) }
-        ensures other { IfErr result (λ stop. (stop ≡ Stop.NotBuilt) × (¬ StartsWith kind (left_of self.old))) }
-        ensures bytes { self.new.bytes ≡ self.old.bytes }
+    // The names of the variables that were read.
+    pub(crate) fn into_names(self) -> Names
+        ensures { result ≡ self.entry.names }
     {
-        match self.take(kind) {
-            Some(text) => Ok(text),
-            None => Err(Stop::NotBuilt),
-        }
-    }
-
-    // A name, a slash and a number.
-    fn declaration(&mut self) -> Result<Declaration<'a>, Stop>
-        ensures reads { IfOk result (λ d.
-            Reads self.old.bytes (g.declaration (declaration_of d)) (left_of self.old) (left_of self.new)) }
-        ensures outside { OnErr result (NoneReads self.old.bytes g.declaration (left_of self.old)) }
-        ensures bytes { self.new.bytes ≡ self.old.bytes }
-    {
-        let name = self.expect(TokenKind::Name)?;
-        self.expect(TokenKind::Slash)?;
-        let digits = self.expect(TokenKind::Number)?;
-        Ok(Declaration { name, digits })
-    }
-
-    // Declarations up to a full stop.
-    pub(crate) fn declarations(&mut self, alloc: Global) -> Result<Vec<Declaration<'a>>, Stop>
-        ensures reads { IfOk result (λ ds.
-            Reads self.old.bytes (g.declarations (map declaration_of ds.items)) (left_of self.old) (left_of self.new)) }
-        ensures outside { result ≡ Err Stop.NotBuilt → NoneReads self.old.bytes g.declarations (left_of self.old) }
-        ensures bytes { self.new.bytes ≡ self.old.bytes }
-    {
-        let mut found = Vec::new(alloc);
-        'list: loop {
-            let declaration = self.declaration()?;
-            match found.push(declaration) {
-                Ok(()) => {}
-                Err(_) => return Err(Stop::NoMemory),
-            }
-            if self.skip(TokenKind::Stop) {
-                return Ok(found);
-            }
-            self.expect(TokenKind::Comma)?;
-        }
-    }
-
-    // The variables of a quantifier up to a colon.
-    pub(crate) fn variables(&mut self, alloc: Global) -> Result<Vec<&'a str>, Stop>
-        ensures reads { IfOk result (λ xs.
-            Reads self.old.bytes (g.variables (texts_of xs.items)) (left_of self.old) (left_of self.new)) }
-        ensures outside { result ≡ Err Stop.NotBuilt → NoneReads self.old.bytes g.variables (left_of self.old) }
-        ensures bytes { self.new.bytes ≡ self.old.bytes }
-    {
-        let mut found = Vec::new(alloc);
-        'list: loop {
-            let variable = self.expect(TokenKind::Variable)?;
-            match found.push(variable) {
-                Ok(()) => {}
-                Err(_) => return Err(Stop::NoMemory),
-            }
-            if self.skip(TokenKind::Colon) {
-                return Ok(found);
-            }
-        }
+        self.names
     }
 }

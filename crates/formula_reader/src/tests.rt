@@ -1,5 +1,6 @@
 use super::*;
-use formula_ast::{File, Formula, Term};
+use formula_ast::{File, Formula, Statement, Term, Terms};
+use signature::{Kind, Signature};
 use std::alloc::{AllocError, Global};
 use std::fmt::Write;
 use std::process::Abort;
@@ -8,98 +9,108 @@ use tree_model::Symbol;
 
 const NAME_OF_64: &str = "a123456789b123456789c123456789d123456789e123456789f123456789_123";
 
-const VARIABLE_OF_64: &str = "A123456789B123456789C123456789D123456789E123456789F123456789_123";
+// Terms in parentheses, if there are any.
+#[cycle(write_term)]
+fn write_arguments(shown: &mut String, arguments: &Terms) -> Result<(), AllocError> {
+    for i in 0..arguments.len() {
+        write!(shown, "{}", if i == 0 { "(" } else { ", " })?;
+        write_term(shown, arguments.get(i))?;
+    }
+    write!(shown, "{}", if arguments.len() == 0 { "" } else { ")" })
+}
 
-// A variable's number, or the place of a constant.
-fn write_leaf(shown: &mut String, term: &Term) -> Result<(), AllocError> {
+// A term with the numbers of its variables, the places of its symbols and the indexes of its further symbols.
+#[cycle(write_term)]
+fn write_term(shown: &mut String, term: &Term) -> Result<(), AllocError> {
     match term {
         Term::Var(number) => write!(shown, "{number}"),
-        Term::App(Symbol::Named(place), _) => write!(shown, "#{place}"),
-        Term::App(Symbol::Further(_), _) => write!(shown, "?"),
-    }
-}
-
-// A term whose arguments are variables and constants.
-fn write_flat(shown: &mut String, term: &Term) -> Result<(), AllocError> {
-    write_leaf(shown, term)?;
-    if let Term::App(_, arguments) = term {
-        for i in 0..arguments.len() {
-            write!(shown, "{}", if i == 0 { "(" } else { ", " })?;
-            write_leaf(shown, arguments.get(i))?;
+        Term::App(Symbol::Named(place), arguments) => {
+            write!(shown, "#{place}")?;
+            write_arguments(shown, arguments)
         }
-        write!(shown, "{}", if arguments.len() == 0 { "" } else { ")" })?;
-    }
-    Ok(())
-}
-
-// A term with its symbols' places and its variables' numbers, two nestings deep.
-fn write_term(shown: &mut String, term: &Term) -> Result<(), AllocError> {
-    write_leaf(shown, term)?;
-    if let Term::App(_, arguments) = term {
-        for i in 0..arguments.len() {
-            write!(shown, "{}", if i == 0 { "(" } else { ", " })?;
-            write_flat(shown, arguments.get(i))?;
+        Term::App(Symbol::Further(index), arguments) => {
+            write!(shown, "${index}")?;
+            write_arguments(shown, arguments)
         }
-        write!(shown, "{}", if arguments.len() == 0 { "" } else { ")" })?;
     }
-    Ok(())
 }
 
-fn write_equation(shown: &mut String, formula: &Formula) -> Result<(), AllocError> {
-    let Formula::Eq(left, right) = formula else {
-        return write!(shown, "?");
-    };
+#[cycle(write_formula)]
+fn write_joined(
+    shown: &mut String,
+    left: &Formula,
+    mark: &str,
+    right: &Formula,
+) -> Result<(), AllocError> {
+    write!(shown, "(")?;
+    write_formula(shown, left)?;
+    write!(shown, " {mark} ")?;
+    write_formula(shown, right)?;
+    write!(shown, ")")
+}
+
+fn write_compared(
+    shown: &mut String,
+    left: &Term,
+    mark: &str,
+    right: &Term,
+) -> Result<(), AllocError> {
     write_term(shown, left)?;
-    write!(shown, " = ")?;
+    write!(shown, " {mark} ")?;
     write_term(shown, right)
 }
 
-// The formula so many joints further to the left.
-fn left_by<'a>(formula: &'a Formula, joints: usize) -> &'a Formula {
-    let mut formula = formula;
-    for _ in 0..joints {
-        if let Formula::And(first, _) = formula {
-            formula = first.get();
-        }
-    }
-    formula
-}
-
-// Equations that are joined from the left, with the parentheses that show it.
-fn write_joined(shown: &mut String, formula: &Formula) -> Result<(), AllocError> {
-    let mut first = formula;
-    let mut joints: usize = 0;
-    for _ in 0..1000 {
-        if let Formula::And(more, _) = first {
-            first = more.get();
-            joints = joints.saturating_add(1);
-            write!(shown, "(")?;
-        }
-    }
-    write_equation(shown, first)?;
-    for i in 0..joints {
-        if let Formula::And(_, second) = left_by(formula, joints - 1 - i) {
-            write!(shown, " & ")?;
-            write_equation(shown, second.get())?;
-            write!(shown, ")")?;
-        }
-    }
-    Ok(())
-}
-
-// Equations behind at most 1000 quantifiers.
+// A formula with parentheses round each two that are joined.
+#[cycle(write_formula)]
 fn write_formula(shown: &mut String, formula: &Formula) -> Result<(), AllocError> {
-    let mut formula = formula;
-    for _ in 0..1000 {
-        if let Formula::Exists(number, body) = formula {
+    match formula {
+        Formula::True => write!(shown, "true"),
+        Formula::False => write!(shown, "false"),
+        Formula::Eq(left, right) => write_compared(shown, left, "=", right),
+        Formula::Differ(left, right) => write_compared(shown, left, "!=", right),
+        Formula::Finite(term) => {
+            write!(shown, "finite ")?;
+            write_term(shown, term)
+        }
+        Formula::Call(place, arguments) => {
+            write!(shown, "#{place}")?;
+            write_arguments(shown, arguments)
+        }
+        Formula::Win(place, moves, term) => {
+            write!(shown, "win {place} {moves} ")?;
+            write_term(shown, term)
+        }
+        Formula::Not(inner) => {
+            write!(shown, "~")?;
+            write_formula(shown, inner.get())
+        }
+        Formula::And(left, right) => write_joined(shown, left.get(), "&", right.get()),
+        Formula::Or(left, right) => write_joined(shown, left.get(), "|", right.get()),
+        Formula::Imp(left, right) => write_joined(shown, left.get(), "->", right.get()),
+        Formula::Iff(left, right) => write_joined(shown, left.get(), "<->", right.get()),
+        Formula::Exists(number, body) => {
             write!(shown, "exists {number} ")?;
-            formula = body.get();
+            write_formula(shown, body.get())
+        }
+        Formula::Forall(number, body) => {
+            write!(shown, "forall {number} ")?;
+            write_formula(shown, body.get())
         }
     }
-    write_joined(shown, formula)
 }
 
-// The names that a file declares, and each statement with its list of names.
+// The names of a statement's variables, and its formula.
+fn write_statement(shown: &mut String, statement: &Statement) -> Result<(), AllocError> {
+    write!(shown, "[")?;
+    for number in 0..statement.names.len() {
+        let name = statement.names.get(number);
+        write!(shown, "{name} ")?;
+    }
+    write!(shown, "] ")?;
+    write_formula(shown, &statement.body)
+}
+
+// The names that a file declares, and its questions.
 fn shown(alloc: Global, file: &File) -> Result<String, AllocError> {
     let mut shown = String::new(alloc);
     for place in 0..file.signature.len() {
@@ -108,76 +119,144 @@ fn shown(alloc: Global, file: &File) -> Result<String, AllocError> {
         write!(shown, "{kind:?} {name}/{arity}. ")?;
     }
     for i in 0..file.solves.len() {
-        let statement = file.solves.get(i);
-        write!(shown, "[")?;
-        for number in 0..statement.names.len() {
-            let name = statement.names.get(number);
-            write!(shown, "{name} ")?;
-        }
-        write!(shown, "] ")?;
-        write_formula(&mut shown, &statement.body)?;
+        write_statement(&mut shown, file.solves.get(i))?;
     }
     Ok(shown)
 }
 
-// Where a text is refused as not built, or none where it is read.
-fn refused_at(rt: &impl Abort, alloc: Global, bytes: &[u8]) -> Option<usize> {
-    match read_file(alloc, bytes) {
-        Ok(_) => None,
-        Err(ReadError::Refused(fault)) => {
-            assert_eq!(rt; fault.kind, FaultKind::NotBuilt);
-            Some(fault.offset)
-        }
-        Err(ReadError::NoMemory) => panic!(rt; "no memory"),
-    }
+// `f` with one argument, `a` with none, and predicates `p` of one and `m` of two.
+fn signature(alloc: Global) -> Result<Signature, Fail> {
+    let mut signature = Signature::new(alloc);
+    signature.declare("f", Kind::Symbol, 1)?;
+    signature.declare("a", Kind::Symbol, 0)?;
+    signature.declare("p", Kind::Pred, 1)?;
+    signature.declare("m", Kind::Pred, 2)?;
+    Ok(signature)
+}
+
+fn refused(
+    rt: &impl Abort,
+    read: Result<(), ReadError>,
+    text: &str,
+    offset: usize,
+    kind: FaultKind,
+) {
+    assert_eq!(rt;
+        read,
+        Err(ReadError::Refused(Fault { offset, kind })),
+        "{text}"
+    );
 }
 
 #[test]
-fn files_of_the_form_are_read(rt: HostRuntime) -> Result<(), Fail> {
+fn operators_bind_by_their_strength(rt: HostRuntime) -> Result<(), Fail> {
+    let signature = signature(rt.alloc())?;
+    for (text, statement) in [
+        ("exists Y: X = f(Y)", "[Y X ] exists 0 1 = #0(0)"),
+        (
+            "((true -> (false -> true)))",
+            "[] (true -> (false -> true))",
+        ),
+        ("(true -> false) -> true", "[] ((true -> false) -> true)"),
+        (
+            "true & false | true & true",
+            "[] ((true & false) | (true & true))",
+        ),
+        ("true | false | true", "[] ((true | false) | true)"),
+        ("true & false & true", "[] ((true & false) & true)"),
+        ("~true & false", "[] (~true & false)"),
+        ("~(true & false)", "[] ~(true & false)"),
+        (
+            "exists X: X = a & Y = a",
+            "[X Y ] (exists 0 0 = #1 & 1 = #1)",
+        ),
+        (
+            "exists X Y: (X = Y & Z != a)",
+            "[X Y Z ] exists 0 exists 1 (0 = 1 & 2 != #1)",
+        ),
+        (
+            "forall X: ~exists Y X: p(Y)",
+            "[X Y ] forall 0 ~exists 1 exists 0 #2(1)",
+        ),
+        ("finite(f(X)) <-> p(a)", "[X ] (finite #0(0) <-> #2(#1))"),
+        ("win(m, 007, f(X))", "[X ] win 3 7 #0(0)"),
+        (
+            "f(X) = a -> a != $12(X, a)",
+            "[X ] (#0(0) = #1 -> #1 != $12(0, #1))",
+        ),
+        ("$3 = X", "[X ] $3 = 0"),
+        ("true -> false | true", "[] (true -> (false | true))"),
+        (
+            "p(Y) & m(X, Y) & finite(Z)",
+            "[Y X Z ] ((#2(0) & #3(1, 0)) & finite 2)",
+        ),
+    ] {
+        let read = read_formula(rt.alloc(), &signature, text.as_bytes())?;
+        let mut written = String::new(rt.alloc());
+        write_statement(&mut written, &read)?;
+        assert_eq!(rt; written.as_str(), statement, "{text}");
+    }
+    Ok(())
+}
+
+#[test]
+fn other_formulas_are_refused_at_their_first_fault(rt: HostRuntime) -> Result<(), Fail> {
+    let signature = signature(rt.alloc())?;
+    for (text, offset, kind) in [
+        ("f", 1, FaultKind::Arity),
+        ("a", 1, FaultKind::Sort),
+        ("f(X)  % c", 9, FaultKind::Sort),
+        ("(f", 2, FaultKind::Ended),
+        ("p", 1, FaultKind::Arity),
+        ("p(X", 3, FaultKind::Ended),
+        ("true )", 5, FaultKind::Syntax),
+        ("", 0, FaultKind::Ended),
+        ("exists X", 8, FaultKind::Ended),
+        ("X = b", 4, FaultKind::Unknown),
+        ("m(X)", 3, FaultKind::Arity),
+        ("m(X, Y) = X", 8, FaultKind::Sort),
+        ("a = p(X)", 4, FaultKind::Sort),
+        ("win(a, 1, X)", 4, FaultKind::Sort),
+        ("true &", 6, FaultKind::Ended),
+        ("X = a = a", 6, FaultKind::Syntax),
+        ("# true", 0, FaultKind::Byte),
+        ("X = $99999999999999999999", 4, FaultKind::Limit),
+    ] {
+        let read = read_formula(rt.alloc(), &signature, text.as_bytes());
+        refused(&rt, read.map(|_| ()), text, offset, kind);
+    }
+    Ok(())
+}
+
+#[test]
+fn a_formula_may_use_names_past_the_limits_of_files(rt: HostRuntime) -> Result<(), Fail> {
+    let mut signature = signature(rt.alloc())?;
+    signature.declare("wide", Kind::Symbol, 9)?;
+    let long = format!(in rt.alloc(); "{NAME_OF_64}4")?;
+    signature.declare(&long, Kind::Symbol, 0)?;
+    let text = "X = wide(a, a, a, a, a, a, a, a, a)";
+    assert!(rt; read_formula(rt.alloc(), &signature, text.as_bytes()).is_ok());
+    let text = format!(in rt.alloc(); "X = {long}")?;
+    let read = read_formula(rt.alloc(), &signature, text.as_bytes());
+    refused(&rt, read.map(|_| ()), &text, 4, FaultKind::Limit);
+    Ok(())
+}
+
+#[test]
+fn files_of_equations_are_read(rt: HostRuntime) -> Result<(), Fail> {
     for (text, file) in [
         ("", ""),
         (" \t\r\n% solve\n% é", ""),
-        ("symbol f/1.", "Symbol f/1. "),
         (
-            "symbol f/1. solve exists X: X = f(X).",
-            "Symbol f/1. [X ] exists 0 0 = #0(0)",
-        ),
-        (
-            "symbol a/0. solve exists X: (X = a).",
-            "Symbol a/0. [X ] exists 0 0 = #0",
-        ),
-        ("solve exists X: X = X.", "[X ] exists 0 0 = 0"),
-        (
-            "symbol f/1, g/2.\nsymbol a/0, h/08. solve exists X Y: Y = g(X, a).",
-            "Symbol f/1. Symbol g/2. Symbol a/0. Symbol h/8. [X Y ] exists 0 exists 1 1 = #1(0, #2)",
-        ),
-        (
-            "symbol f/2. solve exists X X Y: f(Y, X) = X.",
-            "Symbol f/2. [X Y ] exists 0 exists 0 exists 1 #0(1, 0) = 0",
-        ),
-        (
-            "symbol f/2, a/0. solve exists X Y: (X = f(X, Y) & f(X, a) = X).",
-            "Symbol f/2. Symbol a/0. [X Y ] exists 0 exists 1 (0 = #0(0, 1) & #0(0, #1) = 0)",
-        ),
-        (
-            "symbol f/1, a/0, b/0. solve exists X Y: (f(X) = f(Y) & X = a & Y = b).",
-            "Symbol f/1. Symbol a/0. Symbol b/0. [X Y ] exists 0 exists 1 ((#0(0) = #0(1) & 0 = #1) & 1 = #2)",
-        ),
-        (
-            "symbol g/2, a/0. solve exists Y X: g(g(X, a), Y) = g(Y, g(Y, X)).",
-            "Symbol g/2. Symbol a/0. [Y X ] exists 0 exists 1 #0(#0(1, #1), 0) = #0(0, #0(0, 1))",
+            "symbol f/1. solve exists X: X = f(X). symbol a/0. solve exists X Y: (X = a & $1(Y) = X).",
+            "Symbol f/1. Symbol a/0. [X ] exists 0 0 = #0(0)[X Y ] exists 0 exists 1 (0 = #1 & $1(1) = 0)",
         ),
         (
             "%f\nsymbol%g\nf/1.solve exists X_1:(X_1=f(X_1)&X_1=X_1).% the end",
             "Symbol f/1. [X_1 ] exists 0 (0 = #0(0) & 0 = 0)",
         ),
-        (
-            "symbol f/000000000000000000000000000000000000001.",
-            "Symbol f/1. ",
-        ),
     ] {
         let read = read_file(rt.alloc(), text.as_bytes())?;
-        assert_eq!(rt; read.preds.len(), 0);
         let read = shown(rt.alloc(), &read)?;
         assert_eq!(rt; read.as_str(), file, "{text}");
     }
@@ -185,184 +264,122 @@ fn files_of_the_form_are_read(rt: HostRuntime) -> Result<(), Fail> {
 }
 
 #[test]
-fn other_files_are_refused_at_their_first_statement_outside_the_form(rt: HostRuntime) {
-    for (text, offset) in [
-        ("solve .", 0),
-        ("pred p := true.", 0),
-        ("symbol.", 0),
-        ("symbol f.", 0),
-        ("symbol f/1", 0),
-        ("symbol f/1 solve", 0),
-        ("symbol f/1,.", 0),
-        ("symbol F/1.", 0),
-        ("symbol f/9.", 0),
-        ("symbol f/1, g/9.", 0),
-        ("symbol f/1, f/1.", 0),
-        ("symbol f/1. symbol f/2.", 12),
-        ("symbol f/1. symbol g/2, f/1.", 12),
+fn other_files_are_refused_at_their_first_fault(rt: HostRuntime) {
+    for (text, offset, kind) in &[
+        ("#", 0, FaultKind::Byte),
+        ("solve X = X", 11, FaultKind::Ended),
+        ("solve .", 6, FaultKind::Syntax),
+        ("solve true <-> true <-> true.", 20, FaultKind::Syntax),
+        ("solve q(X).", 6, FaultKind::Unknown),
+        ("symbol f/1, f/2.", 12, FaultKind::Twice),
+        ("pred p(X) := X = Y.", 17, FaultKind::Loose),
+        ("symbol f/1. solve f(X).", 22, FaultKind::Sort),
+        ("symbol f/9.", 9, FaultKind::Limit),
+        ("symbol f/2. solve f(X) = X.", 21, FaultKind::Arity),
+        ("symbol f/1. solve f ,", 20, FaultKind::Syntax),
+        ("symbol f/1. solve X = f ,", 24, FaultKind::Syntax),
+        ("symbol f/1, g/2. solve g(X, f ,", 30, FaultKind::Arity),
+        ("symbol f/1. solve finite(f ,", 27, FaultKind::Syntax),
+        ("symbol a/0. solve a )", 20, FaultKind::Syntax),
+        ("symbol a/0. solve (a )", 21, FaultKind::Sort),
         (
-            "symbol f/1. symbol g/99999999999999999999999999999999999999999.",
-            12,
+            "pred p(X) := true. symbol a/0. solve p = a.",
+            39,
+            FaultKind::Arity,
         ),
-        ("symbol f/1. % c\n  symbol g/1 % .", 18),
-        ("solve exists X: X = a.", 0),
-        ("symbol f/1. solve exists X: X = g(X).", 12),
-        ("symbol f/1. solve exists X: X = f.", 12),
-        ("symbol f/1. solve exists X: X = f().", 12),
-        ("symbol f/1. solve exists X: X = f(X, X).", 12),
-        ("symbol f/1. solve exists X: X = f(X X).", 12),
-        ("symbol f/1. solve exists X: X = f(f).", 12),
-        ("symbol f/1. solve exists X: X = f(f(X) X).", 12),
-        ("symbol f/1. solve exists X: X = f(f(X).", 12),
-        ("symbol a/0. solve exists X: X = a(X).", 12),
-        ("symbol f/1. solve exists X: f(X)(X) = X.", 12),
-        ("symbol f/1. solve exists X: X(X) = X.", 12),
-        ("symbol f/1. solve exists X: X = $1.", 12),
-        ("symbol f/1. solve exists X: X != f(X).", 12),
-        ("symbol f/1. solve exists X: ().", 12),
-        ("symbol f/1. solve exists X: ((X = X)).", 12),
-        ("symbol f/1. solve exists X: (X = X &).", 12),
-        ("symbol f/1. solve exists X: (X = X | X = X).", 12),
-        ("symbol f/1. solve exists X: X = X & X = X.", 12),
-        ("symbol f/1. solve exists X: (X = X) & X = X.", 12),
-        ("symbol f/1. solve exists X: (X = X & X = f).", 12),
-        ("symbol f/1. solve exists X: (X = X & f(Y) = X).", 12),
-        ("symbol f/1. solve exists X: exists Y: X = f(Y).", 12),
-        ("symbol f/1. solve exists X: ~X = f(X).", 12),
-        ("symbol f/1. solve finite(X).", 12),
-        ("solve exists X: X = Y.", 0),
+        ("pred q := true. solve q = q.", 24, FaultKind::Sort),
+        ("pred p(X, X) := true.", 10, FaultKind::Twice),
+        ("symbol p/0. pred p := true.", 17, FaultKind::Twice),
+        ("pred p := true. pred p := true.", 21, FaultKind::Twice),
+        ("pred p := p.", 10, FaultKind::Unknown),
         (
-            "symbol f/1. solve exists X: X = f(X). solve exists X: X = X.",
-            38,
+            "pred p(X) := exists Y: Y = X & Y = X.",
+            31,
+            FaultKind::Loose,
         ),
-        ("symbol f/1. solve exists X: Y = f(X).", 12),
-        ("symbol f/1. solve exists X: X = f(Y).", 12),
-        ("symbol f/1. solve exists X, Y: X = f(Y).", 12),
-        ("symbol f/1. solve exists : X = f(X).", 12),
-        ("symbol f/1. solve forall X: X = f(X).", 12),
-        ("symbol f/1. solve X = f(X).", 12),
-        ("symbol f/1. solve exists X: X = f(X)", 12),
         (
-            "symbol a/0. solve exists X: X = a.\nsolve exists X: X = a.",
+            "pred p := exists X: exists X: X = X.",
+            0,
+            FaultKind::NotBuilt,
+        ),
+        ("symbol a/0. solve a(X) = a.", 19, FaultKind::Arity),
+        ("symbol f/1. solve f(X, Y) = X.", 21, FaultKind::Arity),
+        ("symbol f/1. solve X = f() .", 24, FaultKind::Syntax),
+        ("pred p(X) := true. solve X = p(X).", 29, FaultKind::Sort),
+        (
+            "pred m(X, Y) := true. symbol f/1. solve win(f, 1, X).",
+            44,
+            FaultKind::Sort,
+        ),
+        (
+            "pred m(X) := true. solve win(m, 1, X).",
+            29,
+            FaultKind::Arity,
+        ),
+        ("solve win(m, 1, X).", 10, FaultKind::Unknown),
+        (
+            "pred m(X, Y) := true. solve win(m, 1001, X).",
             35,
+            FaultKind::Limit,
         ),
-        ("symbol a/0. solve exists X: X = a.\nsymbol f/1.", 35),
-        ("symbol a/0. solve exists X: X = a.\n.", 35),
-        ("#", 0),
-        (" % c\n #", 6),
-        ("# symbol f/1.", 0),
-        ("symbol # f/1.", 0),
-        ("symbol f/1#.", 0),
-        ("symbol f/1. #", 12),
-        ("symbol f/1. % c\n# symbol g/1.", 16),
-        ("symbol f/1. é", 12),
-        ("symbol a/0. solve # exists X: X = a.", 12),
-        ("symbol a/0. solve exists X: X = a. #", 35),
+        (
+            "pred m(X, Y) := true. solve win(m, 0001000, X).",
+            0,
+            FaultKind::NotBuilt,
+        ),
+        ("solve $18446744073709551616 = X.", 6, FaultKind::Limit),
+        ("solve $0(X,X,X,X,X,X,X,X) = X.", 0, FaultKind::NotBuilt),
+        ("solve $0(X,X,X,X,X,X,X,X,X) = X.", 24, FaultKind::Limit),
+        (
+            "symbol f/00000000000000000000008. solve X = X.",
+            34,
+            FaultKind::NotBuilt,
+        ),
+        ("symbol a/0. pred p(X) := X = a.", 12, FaultKind::NotBuilt),
+        (
+            "solve exists X: X = X. solve true. pred",
+            39,
+            FaultKind::Ended,
+        ),
+        ("solve exists X: ((X = X)).", 0, FaultKind::NotBuilt),
+        ("solve exists X: exists Y: X = Y.", 0, FaultKind::NotBuilt),
+        ("solve exists X: X = Y.", 0, FaultKind::NotBuilt),
+        ("solve exists X: (X = X & (X = X)).", 0, FaultKind::NotBuilt),
+        ("solve exists X: X != X.", 0, FaultKind::NotBuilt),
+        ("solve forall X: X = X.", 0, FaultKind::NotBuilt),
+        ("solve (exists X: X = X).", 0, FaultKind::NotBuilt),
+        ("solve exists X: X = X & true.", 0, FaultKind::NotBuilt),
+        ("solve exists X: (X = X | X = X).", 0, FaultKind::NotBuilt),
+        ("solve true. #", 12, FaultKind::Byte),
+        ("solve true. symbol", 18, FaultKind::Ended),
+        ("solve X = X % c", 15, FaultKind::Ended),
+        ("solve X -> ", 8, FaultKind::Syntax),
+        ("solve ~", 7, FaultKind::Ended),
+        ("solve ()", 7, FaultKind::Syntax),
+        ("solve X.", 7, FaultKind::Syntax),
+        ("solve X = X = X.", 12, FaultKind::Syntax),
+        ("solve exists X.", 14, FaultKind::Syntax),
+        ("solve exists: X = X.", 12, FaultKind::Syntax),
+        ("symbol .", 7, FaultKind::Syntax),
+        ("symbol f.", 8, FaultKind::Syntax),
+        ("symbol f/.", 9, FaultKind::Syntax),
+        ("symbol F/1.", 7, FaultKind::Syntax),
+        ("pred P := true.", 5, FaultKind::Syntax),
+        ("pred p() := true.", 7, FaultKind::Syntax),
+        ("pred p(X := true.", 9, FaultKind::Syntax),
+        ("pred p = true.", 7, FaultKind::Syntax),
+        ("solve true | & true.", 13, FaultKind::Syntax),
+        ("solve finite X.", 13, FaultKind::Syntax),
+        ("solve win(1).", 10, FaultKind::Syntax),
+        ("true", 0, FaultKind::Syntax),
+        (".", 0, FaultKind::Syntax),
+        ("solve X = \x0c X.", 10, FaultKind::Byte),
+        ("solve <- X.", 6, FaultKind::Byte),
+        ("solve a b.", 6, FaultKind::Unknown),
     ] {
-        assert_eq!(rt;
-            refused_at(&rt, rt.alloc(), text.as_bytes()),
-            Some(offset),
-            "{text}"
-        );
+        let read = read_file(rt.alloc(), text.as_bytes());
+        refused(&rt, read.map(|_| ()), text, *offset, *kind);
     }
-}
-
-#[test]
-fn names_and_variables_have_at_most_64_bytes(rt: HostRuntime) -> Result<(), Fail> {
-    for (more, offset) in [("", None), ("4", Some(0))] {
-        let text = format!(in rt.alloc(); "symbol {NAME_OF_64}{more}/0.")?;
-        assert_eq!(rt; refused_at(&rt, rt.alloc(), text.as_bytes()), offset);
-    }
-    for (more, offset) in [("", None), ("4", Some(12))] {
-        let text = format!(in rt.alloc();
-            "symbol a/0. solve exists X {VARIABLE_OF_64}{more}: X = a."
-        )?;
-        assert_eq!(rt; refused_at(&rt, rt.alloc(), text.as_bytes()), offset);
-    }
-    Ok(())
-}
-
-#[test]
-fn there_are_at_most_4096_symbols(rt: HostRuntime) -> Result<(), Fail> {
-    let mut text = String::from_str(rt.alloc(), "symbol s/0")?;
-    for i in 1..4096 {
-        write!(text, ", s{i}/0")?;
-    }
-    let together = format!(in rt.alloc(); "{text}, t/0.")?;
-    text.push_str(". ")?;
-    let apart = format!(in rt.alloc(); "{text}symbol t/0.")?;
-    assert_eq!(rt; refused_at(&rt, rt.alloc(), text.as_bytes()), None);
-    assert_eq!(rt; refused_at(&rt, rt.alloc(), together.as_bytes()), Some(0));
-    assert_eq!(rt;
-        refused_at(&rt, rt.alloc(), apart.as_bytes()),
-        Some(text.len())
-    );
-    Ok(())
-}
-
-#[test]
-fn there_are_at_most_1000_variables_and_joints(rt: HostRuntime) -> Result<(), Fail> {
-    for (variables, joints, offset) in [
-        (1000, 0, None),
-        (1001, 0, Some(12)),
-        (1, 999, None),
-        (1, 1000, Some(12)),
-        (500, 500, None),
-        (500, 501, Some(12)),
-    ] {
-        let mut text = String::from_str(rt.alloc(), "symbol a/0. solve exists")?;
-        for i in 0..variables {
-            write!(text, " X{i}")?;
-        }
-        write!(text, ": (X0 = a")?;
-        for _ in 0..joints {
-            write!(text, " & a = X0")?;
-        }
-        write!(text, ").")?;
-        assert_eq!(rt;
-            refused_at(&rt, rt.alloc(), text.as_bytes()),
-            offset,
-            "{variables} {joints}"
-        );
-    }
-    Ok(())
-}
-
-#[test]
-fn at_most_200_nestings_stand_within_one_another(rt: HostRuntime) -> Result<(), Fail> {
-    for (begins, lists, ends, offset) in [
-        ("", 199, "", None),
-        ("", 200, "", Some(12)),
-        ("(", 198, ")", None),
-        ("(", 199, ")", Some(12)),
-        ("(f(f(X)) = f(X) & ", 198, ")", None),
-        ("(X = X & ", 199, ")", Some(12)),
-    ] {
-        let mut text = format!(in rt.alloc(); "symbol f/1. solve exists X: {begins}X = ")?;
-        for _ in 0..lists {
-            text.push_str("f(")?;
-        }
-        text.push('X')?;
-        for _ in 0..lists {
-            text.push(')')?;
-        }
-        write!(text, "{ends}.")?;
-        assert_eq!(rt;
-            refused_at(&rt, rt.alloc(), text.as_bytes()),
-            offset,
-            "{begins} {lists}"
-        );
-    }
-    Ok(())
-}
-
-#[test]
-fn a_file_has_at_most_1048576_bytes(rt: HostRuntime) -> Result<(), Fail> {
-    let mut bytes = vec![in rt.alloc(); b' '; 1_048_576]?;
-    assert_eq!(rt; refused_at(&rt, rt.alloc(), &bytes), None);
-    bytes.push(b' ')?;
-    assert_eq!(rt; refused_at(&rt, rt.alloc(), &bytes), Some(1_048_576));
-    Ok(())
 }
 
 #[test]
@@ -373,6 +390,5 @@ fn errors_are_printed(rt: HostRuntime) -> Result<(), Fail> {
     });
     let printed = format!(in rt.alloc(); "{error}, {}", ReadError::NoMemory)?;
     assert_eq!(rt; printed.as_str(), "byte 12: NotBuilt, out of memory");
-    at_most_one_outcome();
     Ok(())
 }

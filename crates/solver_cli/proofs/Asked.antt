@@ -1,37 +1,40 @@
--- What is read as a question is a closed conjunction of equations, whose symbols fit the signature.
-use Rattle.std.proofs.Common.{◌≡◌, ℕ, zero, suc, List, [], ◌∷◌, map, length, Option, Some, None, inl, inr, refl, sym, ◌∙◌, ap, subst, arith}
-use Rattle.std.specs.Prelude.{Contains, slice_get, option_and_then, option_map}
-use Rattle.std.proofs.lemmas.List.Elements.{All-append}
-use Rattle.tree_model.specs.declared.kind.Kind.TheVariants as kind
+-- What is read as a question that is answered by now is a closed conjunction of equations.
+use Rattle.std.proofs.Common.{◌≡◌, ℕ, zero, suc, ◌-◌, ◌≤◌, List, [], ◌∷◌, ◌++◌, map, length, Bool, true, false, ◌&&◌, ◌||◌, Option, Some, None, All, inl, inr, refl, sym, ◌∙◌, ap, subst, arith}
+use Rattle.std.specs.Prelude.{Contains, slice_get, option_and_then}
+use Rattle.std.specs.Str.{bytes_eq}
+use Rattle.std.proofs.lemmas.List.Elements.{All-head, All-tail, All-push, All-nil}
+use Rattle.std.proofs.lemmas.Option.{get_or_from_slice_get}
+use Rattle.std.proofs.lemmas.Slice.Eq.{bytes_eq-Decides}
 use Rattle.tree_model.specs.declared.tree.Symbol.{Symbol}
-use Rattle.tree_model.specs.declared.tree.Symbol.TheVariants.{Named}
-use Rattle.tree_model.specs.Signatures.{Signature, Entry, IsRoot}
+use Rattle.tree_model.specs.declared.tree.Symbol.TheVariants.{Named, Further}
+use Rattle.tree_model.specs.Signatures.{Signature}
 use Rattle.formula_ast.specs.declared.term.Term.{Term}
 use Rattle.formula_ast.specs.declared.term.Term.TheOpen.{Term-F}
 use Rattle.formula_ast.specs.declared.term.Term.TheOpen as layer
 use Rattle.formula_ast.specs.declared.term.Term.TheViews.{out-Term}
 use Rattle.formula_ast.specs.declared.term.Term.TheVariants as term
 use Rattle.formula_ast.specs.declared.term.Terms.{Terms}
-use Rattle.formula_ast.specs.declared.statement.Statement.{Statement}
-use Rattle.formula_ast.specs.Forms.{Form, form_of, always, never, equal, differ, finite, call, win, no, and, or, imp, iff, exists, forall}
+use Rattle.formula_ast.specs.declared.pred.Pred.{Pred}
+use Rattle.formula_ast.specs.Forms.{Form, form_of, equal, and, exists}
 use Rattle.formula_ast.specs.Terms.{list_of, argument, subterm}
-use Rattle.formula_ast.specs.WellFormed.{IsFreeIn, OccursIn}
-use Rattle.formula_reader.specs.Written.{WrittenTerm, variable, apply, WrittenTerms, no_terms, one_more, WrittenEquation, Body, bare, grouped, Question}
-use Rattle.formula_reader.specs.Form.{number_in, behind, IsTerm, AreTerms, IsEquation, Joins, IsBody, IsStatement}
-use Rattle.formula_reader.proofs.Occurrences.{first_are}
-use Rattle.equation_pairs.specs.Questions.{equations_of, IsConjunction, IsQuantified, IsClosedConjunction, TermFits, SymbolsFit}
+use Rattle.formula_ast.specs.WellFormed.{IsFreeIn, IsWellFormed}
+use Rattle.formula_grammar.specs.declared.shape.Shape.{Shape}
+use Rattle.formula_grammar.specs.declared.shape.Shape.TheVariants.{Equation, Equations, Group, Question, Other}
+use Rattle.formula_grammar.specs.Written as written
+use Rattle.formula_grammar.specs.Written.{Text, WrittenTerm, WrittenTerms, WrittenFormula, WrittenStatement, variable, named, further, no_terms, one_more}
+use Rattle.formula_grammar.specs.Checks.{is_among, index_of}
+use Rattle.formula_grammar.specs.Lawful.{has_bound, all_have_bound, is_bound, declared_by}
+use Rattle.formula_grammar.specs.Meaning.{number_in, place_in, behind, IsTerm, AreTerms, Stands, Makes}
+use Rattle.formula_grammar.specs.Reading.{joined_shape, grouped_shape, asked_shape, shape_of, IsBuilt}
+use Rattle.equation_pairs.specs.Questions.{IsConjunction, IsQuantified, IsClosedConjunction}
+use Rattle.solver_cli.specs.Language.{File, Statement, ReadsAs}
+use Rattle.solver_cli.specs.Asked.{AsksEquations, HasEquations}
 
--- a variable that is the number of a name
-abbrev Named_by : List (List ℕ) → ℕ → Type 0
-Named_by names x = (name : List ℕ) × Contains names name × (number_in names name ≡ x)
+-- ---- what stands in a term
 
 abbrev variable_or : ℕ → Term-F Term Terms → ℕ
 variable_or d (layer.Var v) = v
 variable_or d (layer.App s ts) = d
-
-abbrev application_or : (Symbol × Terms) → Term-F Term Terms → Symbol × Terms
-application_or d (layer.Var v) = d
-application_or d (layer.App s ts) = (s, ts)
 
 abbrev is_application : Term-F Term Terms → ℕ
 is_application (layer.Var v) = 0
@@ -41,136 +44,54 @@ var_is : (v x : ℕ) → term.Var v ≡ term.Var x → v ≡ x
 var_is v x e =
     ap (λ l. variable_or 0 l) (sym (term.outs-Var v)) ∙ ap (λ t. variable_or 0 (out-Term t)) e ∙ ap (λ l. variable_or 0 l) (term.outs-Var x)
 
-app_is : (s r : Symbol) (ts us : Terms) → term.App s ts ≡ term.App r us → ◌≡◌ {A = Symbol × Terms} (s, ts) (r, us)
-app_is s r ts us e =
-    ap (λ l. application_or (s, ts) l) (sym (term.outs-App s ts)) ∙ ap (λ t. application_or (s, ts) (out-Term t)) e ∙ ap (λ l. application_or (s, ts) l) (term.outs-App r us)
-
 not_both : (v : ℕ) (s : Symbol) (ts : Terms) → term.App s ts ≡ term.Var v → ⊥
 not_both v s ts e =
     let one : ◌≡◌ {A = ℕ} 1 0 = ap (λ l. is_application l) (sym (term.outs-App s ts)) ∙ ap (λ t. is_application (out-Term t)) e ∙ ap (λ l. is_application l) (term.outs-Var v) in
     absurd (omega (arith, one))
 
-some_is : {A : Type 0} (x y : A) → ◌≡◌ {A = Option A} (Some x) (Some y) → x ≡ y
-some_is {A = A} x y e = ap (or_else x) e
-  where
-    or_else : A → Option A → A
-    or_else d None = d
-    or_else d (Some z) = z
+some_is : (x y : Term) → ◌≡◌ {A = Option Term} (Some x) (Some y) → x ≡ y
+some_is x y e = cc e
 
 -- what stands below a variable, and below an application
 below_variable : (v i : ℕ) (path : List ℕ) → subterm (term.Var v) (i ∷ path) ≡ None
 below_variable v i path = ap (λ l. option_and_then {T = Term} {U = Term} (λ u. subterm u path) (argument l i)) (term.outs-Var v)
 
-below_application : (s : Symbol) (ts : Terms) (i : ℕ) (path : List ℕ) → subterm (term.App s ts) (i ∷ path) ≡ option_and_then {T = Term} {U = Term} (λ u. subterm u path) (slice_get (list_of ts) i)
+below_application : (s : Symbol) (ts : Terms) (i : ℕ) (path : List ℕ)
+    → subterm (term.App s ts) (i ∷ path) ≡ option_and_then {T = Term} {U = Term} (λ u. subterm u path) (slice_get (list_of ts) i)
 below_application s ts i path = ap (λ l. option_and_then {T = Term} {U = Term} (λ u. subterm u path) (argument l i)) (term.outs-App s ts)
 
 none_there : {u : Term} → ◌≡◌ {A = Option Term} None (Some u) → ⊥
 none_there e = cc e
 
-module _ (σ : Signature) (names : List (List ℕ)) where
-  -- P holds of each subterm of a term that is read, if it holds of variables of the names and of declared applications
-  module _ (P : Term → Type 0) (of_variable : (name : List ℕ) → Contains names name → P (term.Var (number_in names name)))
-      (of_application : (place : ℕ) (ts : Terms) (f : List ℕ) → slice_get σ place ≡ Some (record { name = f; kind = kind.Symbol; arity = length (list_of ts) }) → P (term.App (Named place) ts)) where
-    mutual
-      each_subterm : (w : WrittenTerm) (t : Term) → IsTerm σ names w t → (path : List ℕ) (u : Term) → subterm t path ≡ Some u → P u
-      each_subterm (variable x) t (c, e) [] u got = subst P (sym e ∙ some_is t u got) (of_variable x c)
-      each_subterm (variable x) t (c, e) (i ∷ path) u got =
-          absurd (cc (got, ap (λ r. subterm r (i ∷ path)) e, below_variable (number_in names x) i path))
-      each_subterm (apply f ws) t (place, ts, e, declared, are) [] u got = subst P (sym e ∙ some_is t u got) (of_application place ts f declared)
-      each_subterm (apply f ws) t (place, ts, e, declared, are) (i ∷ path) u got =
-          each_argument ws (list_of ts) are i path u (sym (ap (λ r. subterm r (i ∷ path)) e ∙ below_application (Named place) ts i path) ∙ got)
+both_true : (a b : Bool) → (a && b) ≡ true → (a ≡ true) × (b ≡ true)
+both_true true true e = (refl, refl)
+both_true true false e = absurd (cc e)
+both_true false b e = absurd (cc e)
 
-      each_argument : (ws : WrittenTerms) (ts : List Term) → AreTerms σ names ws ts → (i : ℕ) (path : List ℕ) (u : Term)
-          → option_and_then {T = Term} {U = Term} (λ r. subterm r path) (slice_get ts i) ≡ Some u → P u
-      each_argument no_terms ts e i path u got = absurd (none_there (sym (ap (λ l. option_and_then {T = Term} {U = Term} (λ r. subterm r path) (slice_get l i)) e) ∙ got))
-      each_argument (one_more w ws) [] are i path u got = absurd are
-      each_argument (one_more w ws) (t ∷ ts) are zero path u got = each_subterm w t are.0 path u got
-      each_argument (one_more w ws) (t ∷ ts) are (suc i) path u got = each_argument ws ts are.1 i path u got
+-- the number of one of these variables is among their numbers
+among_more : (names xs : List Text) (z y : Text) (b : Bool) → bytes_eq z y ≡ b → is_among y (z ∷ xs) ≡ true
+    → (is_among y xs ≡ true → Contains (map (number_in names) xs) (number_in names y)) → Contains (map (number_in names) (z ∷ xs)) (number_in names y)
+among_more names xs z y true same e later =
+    let is : z ≡ y = (bytes_eq-Decides z y).0 same in (0, omega arith, ap (λ n. number_in names n) is)
+among_more names xs z y false other e later =
+    let (k, w, is) = later (sym (ap (λ b. b || is_among y xs) other) ∙ e) in (suc k, omega arith, is)
 
-  occurs : (w : WrittenTerm) (t : Term) → IsTerm σ names w t → (x : ℕ) → OccursIn x t → Named_by names x
-  occurs w t is x (path, got) = each_subterm P of_variable of_application w t is path (term.Var x) got refl
-    where
-      P : Term → Type 0
-      P u = u ≡ term.Var x → Named_by names x
+number_among : (names xs : List Text) (y : Text) → is_among y xs ≡ true → Contains (map (number_in names) xs) (number_in names y)
+number_among names [] y e = absurd (cc e)
+number_among names (z ∷ xs) y e = among_more names xs z y (bytes_eq z y) refl e (λ later. number_among names xs y later)
 
-      of_variable : (name : List ℕ) → Contains names name → P (term.Var (number_in names name))
-      of_variable name c e = (name, c, var_is (number_in names name) x e)
-
-      of_application : (place : ℕ) (ts : Terms) (f : List ℕ) → slice_get σ place ≡ Some (record { name = f; kind = kind.Symbol; arity = length (list_of ts) }) → P (term.App (Named place) ts)
-      of_application place ts f declared e = absurd (not_both x (Named place) ts e)
-
-  fits : (w : WrittenTerm) (t : Term) → IsTerm σ names w t → TermFits σ t
-  fits w t is path symbol terms got = each_subterm P of_variable of_application w t is path (term.App symbol terms) got refl
-    where
-      P : Term → Type 0
-      P u = u ≡ term.App symbol terms → IsRoot σ symbol (length (list_of terms))
-
-      of_variable : (name : List ℕ) → Contains names name → P (term.Var (number_in names name))
-      of_variable name c e = absurd (not_both (number_in names name) symbol terms (sym e))
-
-      of_application : (place : ℕ) (ts : Terms) (f : List ℕ) → slice_get σ place ≡ Some (record { name = f; kind = kind.Symbol; arity = length (list_of ts) }) → P (term.App (Named place) ts)
-      of_application place ts f declared e =
-          let Q : Symbol × Terms → Type 0 = λ p. IsRoot σ p.0 (length (list_of p.1)) in
-          subst Q (app_is (Named place) symbol ts terms e) (ap (λ o. option_map {T = Entry} {U = kind.the_data × ℕ} (λ entry. (entry.kind, entry.arity)) o) declared)
-
-  -- a conjunction of equations whose variables are numbers of the names and whose symbols fit
-  record IsGood (f : Form) : Type 0 where
-    conjunction : IsConjunction f
-    named : (x : ℕ) → IsFreeIn x f → Named_by names x
-    symbols : SymbolsFit σ (equations_of f)
-
-  equation_good : (e : WrittenEquation) (f : Form) → IsEquation σ names e f → IsGood f
-  equation_good e f (t, u, left, right, is) = subst (λ (g : Form). IsGood g) (sym is) (record {
-    conjunction = tt;
-    named = λ x free. elim free [ inl o ↦ occurs e.left t left x o | inr o ↦ occurs e.right u right x o ];
-    symbols = one;
-  })
-    where
-      one : SymbolsFit σ ((t, u) ∷ [])
-      one zero d w = (fits e.left t left, fits e.right u right)
-      one (suc k) d w = absurd (omega arith)
-
-  joins_good : (es : List WrittenEquation) (f h : Form) → IsGood f → Joins σ names f es h → IsGood h
-  joins_good [] f h good is = subst (λ (g : Form). IsGood g) (sym is) good
-  joins_good (e ∷ es) f h good (g, is, joined) =
-      let other = equation_good e g is in
-      joins_good es (and f g) h
-      (record {
-        conjunction = (good.conjunction, other.conjunction);
-        named = λ x free. elim free [ inl o ↦ good.named x o | inr o ↦ other.named x o ];
-        symbols = All-append (λ (pair : Term × Term). TermFits σ pair.0 × TermFits σ pair.1) (equations_of f) (equations_of g) good.symbols other.symbols;
-      })
-      joined
-
-  body_good : (b : Body) (f : Form) → IsBody σ names b f → IsGood f
-  body_good (bare e) f is = equation_good e f is
-  body_good (grouped e es) f (g, is, joined) = joins_good es g f (equation_good e g is) joined
+-- ---- behind a quantifier
 
 conjunction_quantified : (f : Form) → IsConjunction f → IsQuantified f
 conjunction_quantified (equal t s) c = tt
 conjunction_quantified (and f g) c = c
-conjunction_quantified always c = absurd c
-conjunction_quantified never c = absurd c
-conjunction_quantified (differ t s) c = absurd c
-conjunction_quantified (finite t) c = absurd c
-conjunction_quantified (call p ts) c = absurd c
-conjunction_quantified (win p k t) c = absurd c
-conjunction_quantified (no f) c = absurd c
-conjunction_quantified (or f g) c = absurd c
-conjunction_quantified (imp f g) c = absurd c
-conjunction_quantified (iff f g) c = absurd c
-conjunction_quantified (exists x f) c = absurd c
-conjunction_quantified (forall x f) c = absurd c
+conjunction_quantified f c = absurd c
 
-behind_quantified : (vs : List ℕ) (f : Form) → IsConjunction f → IsQuantified (behind vs f)
+behind_quantified : (vs : List ℕ) (f : Form) → IsConjunction f → IsQuantified (behind exists vs f)
 behind_quantified [] f c = conjunction_quantified f c
 behind_quantified (v ∷ vs) f c = behind_quantified vs f c
 
-behind_equations : (vs : List ℕ) (f : Form) → equations_of (behind vs f) ≡ equations_of f
-behind_equations [] f = refl
-behind_equations (v ∷ vs) f = behind_equations vs f
-
-behind_free : (vs : List ℕ) (f : Form) (x : ℕ) → IsFreeIn x (behind vs f) → IsFreeIn x f × ¬ Contains vs x
+behind_free : (vs : List ℕ) (f : Form) (x : ℕ) → IsFreeIn x (behind exists vs f) → IsFreeIn x f × ¬ Contains vs x
 behind_free [] f x free = (free, λ (k, w, is). absurd (omega arith))
 behind_free (v ∷ vs) f x free =
     let inner = behind_free vs f x free.1 in (inner.0, outside inner.1)
@@ -179,30 +100,124 @@ behind_free (v ∷ vs) f x free =
     outside n (zero, w, is) = free.0 (sym is)
     outside n (suc k, w, is) = n (k, omega arith, is)
 
-contains_map : {A : Type 0} (f : A → ℕ) (xs : List A) (x : A) → Contains xs x → Contains (map f xs) (f x)
-contains_map f [] x (k, w, is) = absurd (omega arith)
-contains_map f (y ∷ xs) x (zero, w, is) = (0, omega arith, ap f is)
-contains_map f (y ∷ xs) x (suc k, w, is) =
-    let (j, v, same) = contains_map f xs x (k, omega arith, is) in (suc j, omega arith, same)
+-- ---- what is written, where variables are bound
 
-pub asked : (σ : Signature) (q : Question) (s : Statement) → IsStatement σ q s → IsClosedConjunction (form_of s.body) × SymbolsFit σ (equations_of (form_of s.body))
-asked σ q s is =
-    let number : List ℕ → ℕ = λ x. number_in s.names x in
-    let vs : List ℕ = map number q.variables in
-    let good = body_good σ s.names q.body is.inner is.is_body in
-    let P : Form → Type 0 = λ f. IsClosedConjunction f × SymbolsFit σ (equations_of f) in
-    subst P (sym is.body) (
-      record {
-        shape = behind_quantified vs is.inner good.conjunction;
-        closed = λ x free. closed good.named x (behind_free vs is.inner x free);
-      },
-      subst (λ es. SymbolsFit σ es) (sym (behind_equations vs is.inner)) good.symbols,
-    )
-  where
-    bound : (x : List ℕ) → Contains s.names x → Contains q.variables x
-    bound x c = first_are q.variables x (subst (λ (l : List (List ℕ)). Contains l x) is.names c)
+module _ (σ : Signature) (names : List Text) where
+  -- the number of one of these variables
+  abbrev IsBound : List Text → ℕ → Type 0
+  IsBound xs x = Contains (map (number_in names) xs) x
 
-    closed : ((x : ℕ) → IsFreeIn x is.inner → Named_by s.names x) → (x : ℕ) → IsFreeIn x is.inner × ¬ Contains (map (λ y. number_in s.names y) q.variables) x → ⊥
-    closed named x (free, outside) =
-        let (name, c, same) = named x free in
-        outside (subst (λ n. Contains (map (λ y. number_in s.names y) q.variables) n) same (contains_map (λ y. number_in s.names y) q.variables name (bound name c)))
+  mutual
+    occurs : (xs : List Text) (w : WrittenTerm) (t : Term) → IsTerm σ names w t → has_bound xs w ≡ true → (path : List ℕ) (x : ℕ)
+        → subterm t path ≡ Some (term.Var x) → IsBound xs x
+    occurs xs (variable y) t e b [] x got =
+        subst (IsBound xs) (var_is (number_in names y) x (sym e ∙ some_is t (term.Var x) got)) (number_among names xs y b)
+    occurs xs (variable y) t e b (i ∷ path) x got =
+        absurd (none_there (sym (ap (λ r. subterm r (i ∷ path)) e ∙ below_variable (number_in names y) i path) ∙ got))
+    occurs xs (named f ws) t (ts, e, are) b [] x got = absurd (not_both x (Named (place_in σ f)) ts (sym e ∙ some_is t (term.Var x) got))
+    occurs xs (named f ws) t (ts, e, are) b (i ∷ path) x got =
+        occurs_in xs ws (list_of ts) are b i path x (sym (ap (λ r. subterm r (i ∷ path)) e ∙ below_application (Named (place_in σ f)) ts i path) ∙ got)
+    occurs xs (further k ws) t (ts, e, are) b [] x got = absurd (not_both x (Further (index_of k)) ts (sym e ∙ some_is t (term.Var x) got))
+    occurs xs (further k ws) t (ts, e, are) b (i ∷ path) x got =
+        occurs_in xs ws (list_of ts) are b i path x (sym (ap (λ r. subterm r (i ∷ path)) e ∙ below_application (Further (index_of k)) ts i path) ∙ got)
+
+    occurs_in : (xs : List Text) (ws : WrittenTerms) (ts : List Term) → AreTerms σ names ws ts → all_have_bound xs ws ≡ true → (i : ℕ) (path : List ℕ) (x : ℕ)
+        → option_and_then {T = Term} {U = Term} (λ r. subterm r path) (slice_get ts i) ≡ Some (term.Var x) → IsBound xs x
+    occurs_in xs no_terms ts e b i path x got =
+        absurd (none_there (sym (ap (λ l. option_and_then {T = Term} {U = Term} (λ r. subterm r path) (slice_get l i)) e) ∙ got))
+    occurs_in xs (one_more w ws) [] are b i path x got = absurd are
+    occurs_in xs (one_more w ws) (t ∷ ts) are b zero path x got =
+        occurs xs w t are.0 (both_true (has_bound xs w) (all_have_bound xs ws) b).0 path x got
+    occurs_in xs (one_more w ws) (t ∷ ts) are b (suc i) path x got =
+        occurs_in xs ws ts are.1 (both_true (has_bound xs w) (all_have_bound xs ws) b).1 i path x got
+
+  -- a conjunction of equations whose variables are these
+  record IsGood (xs : List Text) (f : Form) : Type 0 where
+    conjunction : IsConjunction f
+    bound : (x : ℕ) → IsFreeIn x f → IsBound xs x
+
+  -- what a formula of each shape is, where these variables are bound
+  abbrev IsOf : List Text → Shape → Form → Type 0
+  IsOf xs Equation f = IsGood xs f
+  IsOf xs Equations f = IsGood xs f
+  IsOf xs Group f = IsGood xs f
+  IsOf xs Question f = xs ≡ [] → IsClosedConjunction f
+  IsOf xs Other f = Unit {0}
+
+  equated : (xs : List Text) (v w : WrittenTerm) (t u : Term) → IsTerm σ names v t → IsTerm σ names w u → is_bound xs (written.equal v w) ≡ true
+      → IsGood xs (equal t u)
+  equated xs v w t u left right b = record {
+    conjunction = tt;
+    bound = λ x free. elim free [
+      | inl (path, got) ↦ occurs xs v t left (both_true (has_bound xs v) (has_bound xs w) b).0 path x got
+      | inr (path, got) ↦ occurs xs w u right (both_true (has_bound xs v) (has_bound xs w) b).1 path x got
+    ];
+  }
+
+  both_good : (xs : List Text) (f g : Form) → IsGood xs f → IsGood xs g → IsGood xs (and f g)
+  both_good xs f g first other = record {
+    conjunction = (first.conjunction, other.conjunction);
+    bound = λ x free. elim free [ inl o ↦ first.bound x o | inr o ↦ other.bound x o ];
+  }
+
+  joined : (xs : List Text) (s r : Shape) (f g : Form) → IsOf xs s f → IsOf xs r g → IsOf xs (joined_shape s r) (and f g)
+  joined xs Equation Equation f g first other = both_good xs f g first other
+  joined xs Equations Equation f g first other = both_good xs f g first other
+  joined xs s r f g first other = tt
+
+  grouped : (xs : List Text) (s : Shape) (f : Form) → IsOf xs s f → IsOf xs (grouped_shape s) f
+  grouped xs Equation f is = is
+  grouped xs Equations f is = is
+  grouped xs s f is = tt
+
+  closed : (xs ys : List Text) (f : Form) → IsGood (xs ++ ys) f → xs ≡ [] → IsClosedConjunction (behind exists (map (number_in names) ys) f)
+  closed xs ys f good none =
+      let vs : List ℕ = map (number_in names) ys in
+      let here : IsGood ys f = subst (λ (zs : List Text). IsGood (zs ++ ys) f) none good in record {
+        shape = behind_quantified vs f here.conjunction;
+        closed = λ x free. let (inside, outside) = behind_free vs f x free in outside (here.bound x inside);
+      }
+
+  asked_of : (xs ys : List Text) (s : Shape) (f : Form) → IsOf (xs ++ ys) s f → IsOf xs (asked_shape s) (behind exists (map (number_in names) ys) f)
+  asked_of xs ys Equation f is = closed xs ys f is
+  asked_of xs ys Group f is = closed xs ys f is
+  asked_of xs ys s f is = tt
+
+  is_of : (xs : List Text) (w : WrittenFormula) (f : Form) → Stands σ names w f → is_bound xs w ≡ true → IsOf xs (shape_of w) f
+  is_of xs (written.equal v w) f (t, u, e, left, right) b = subst (λ (g : Form). IsGood xs g) (sym e) (equated xs v w t u left right b)
+  is_of xs (written.and v w) f (g, h, e, left, right) b =
+      let bounds = both_true (is_bound xs v) (is_bound xs w) b in
+      subst (λ (k : Form). IsOf xs (joined_shape (shape_of v) (shape_of w)) k) (sym e)
+      (joined xs (shape_of v) (shape_of w) g h (is_of xs v g left bounds.0) (is_of xs w h right bounds.1))
+  is_of xs (written.group w) f is b = grouped xs (shape_of w) f (is_of xs w f is b)
+  is_of xs (written.exists ys w) f (g, e, is) b =
+      subst (λ (k : Form). IsOf xs (asked_shape (shape_of w)) k) (sym e) (asked_of xs ys (shape_of w) g (is_of (xs ++ ys) w g is b))
+  is_of xs w f is b = tt
+
+-- ---- the statements of a file
+
+abbrev IsClosed : Statement → Type 0
+IsClosed s = IsClosedConjunction (form_of s.body)
+
+all_closed : (file : File) (σ : Signature) (preds : List Pred) (solves : List Statement) (statements : List WrittenStatement)
+    → Makes file σ preds solves statements → All IsBuilt statements → All IsClosed solves → All IsClosed file.solves
+all_closed file σ preds solves [] makes built closed = subst (λ (l : List Statement). All IsClosed l) (sym makes.2) closed
+all_closed file σ preds solves (written.symbols ds ∷ more) makes built closed =
+    all_closed file (declared_by σ (written.symbols ds)) preds solves more makes (All-tail IsBuilt (written.symbols ds) more built) closed
+all_closed file σ preds solves (written.predicate p xs w ∷ more) makes built closed = absurd (All-head IsBuilt (written.predicate p xs w) more built)
+all_closed file σ preds solves (written.solve w ∷ more) (s, is, makes) built closed =
+    let (asks, bound) = All-head IsBuilt (written.solve w) more built in
+    let here : IsClosed s = subst (λ shape. IsOf σ s.names [] shape (form_of s.body)) asks (is_of σ s.names [] w (form_of s.body) is.body bound) refl in
+    all_closed file σ preds (solves ++ s ∷ []) more makes (All-tail IsBuilt (written.solve w) more built) (All-push IsClosed solves s closed here)
+
+pub has_equations : (bytes : List ℕ) (file : File) → ReadsAs bytes file → IsWellFormed file → HasEquations file
+has_equations bytes file reads well_formed i d is = record {
+  shape = all_closed file [] [] [] reads.statements reads.makes reads.built (All-nil IsClosed) i d is;
+  over = well_formed.solves i d is;
+}
+
+-- the statement with this number, counted from 1
+pub asked : (file : File) (number : ℕ) (s : Statement) → HasEquations file → 1 ≤ number → number ≤ length file.solves → slice_get file.solves (number - 1) ≡ Some s
+    → AsksEquations file s
+asked file number s has first within is =
+    subst (λ (x : Statement). AsksEquations file x) (get_or_from_slice_get file.solves (number - 1) s s is) (has (number - 1) s (omega (arith, first, within)))

@@ -3,7 +3,6 @@
 pub use Rattle.formula_ast.specs.declared.file.File.{File}
 pub use Rattle.formula_ast.specs.declared.statement.Statement.{Statement}
 pub use Rattle.formula_ast.specs.Valid.{IsValid, IsUnsatisfiable}
-pub use Rattle.formula_reader.specs.declared.fault.Fault.{Fault}
-pub use Rattle.formula_reader.specs.declared.fault.FaultKind.{FaultKind}
-pub use Rattle.formula_reader.specs.Form.{HasEquations}
-pub use Rattle.formula_reader.specs.Reading.{ReadsAs, IsFirstFault}
+pub use Rattle.formula_grammar.specs.declared.fault.Fault.{Fault}
+pub use Rattle.formula_grammar.specs.declared.fault.FaultKind.{FaultKind}
+pub use Rattle.formula_grammar.specs.Reading.{ReadsAs, IsFirstFault}

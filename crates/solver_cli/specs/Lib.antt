@@ -1,4 +1,5 @@
 pub mod Answered
+pub mod Asked
 pub mod Files
 pub mod Language
 pub mod Lines

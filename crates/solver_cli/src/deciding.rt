@@ -1,7 +1,7 @@
 // A statement is decided, and its answer made.
 ghost use Rattle.std.specs.Prelude.{◌≤◌, IfOk, length, string_bytes};
 ghost use Rattle.solver_cli.specs.Answered.{Answered};
-ghost use Rattle.solver_cli.specs.Language.{HasEquations};
+ghost use Rattle.solver_cli.specs.Asked.{HasEquations};
 
 use equation_pairs::holds;
 use formula_ast::File;

@@ -1,4 +1,8 @@
 // Runs over memory.
+mod faults;
+mod fronts;
+mod limits;
+
 use crate::{Status, report, run};
 use io_edge::{Failed, MemorySink, MemorySource, Source};
 use std::alloc::Global;
@@ -25,13 +29,14 @@ fn expect_run(
     status: Status,
     written: &[u8],
     line: &[u8],
+    shows: &str,
 ) -> Result<(), Fail> {
     let mut err = MemorySink::new(alloc, 100)?;
     let words = ["file"];
     let given = run(alloc, &words, source, out, &mut err);
-    assert_eq!(rt; given, status);
-    assert_eq!(rt; out.bytes(), written);
-    assert_eq!(rt; err.bytes(), line);
+    assert_eq!(rt; given, status, "{shows}");
+    assert_eq!(rt; out.bytes(), written, "{shows}");
+    assert_eq!(rt; err.bytes(), line, "{shows}");
     Ok(())
 }
 
@@ -43,77 +48,101 @@ fn expect_ample(
     status: Status,
     written: &[u8],
     line: &[u8],
+    shows: &str,
 ) -> Result<(), Fail> {
     let mut out = MemorySink::new(alloc, 100)?;
-    expect_run(rt, alloc, source, &mut out, status, written, line)
+    expect_run(rt, alloc, source, &mut out, status, written, line, shows)
 }
 
 #[test]
 fn an_empty_file_has_no_answers(rt: HostRuntime) -> Result<(), Fail> {
     let alloc = rt.alloc();
     let mut source = source_of(alloc, b"")?;
-    expect_ample(&rt, alloc, &mut source, Status::Done, b"", b"")
+    expect_ample(&rt, alloc, &mut source, Status::Done, b"", b"", "no bytes")
 }
 
 #[test]
 fn a_statement_is_answered(rt: HostRuntime) -> Result<(), Fail> {
     let alloc = rt.alloc();
     let mut source = source_of(alloc, FIRST)?;
-    expect_ample(&rt, alloc, &mut source, Status::Done, ANSWER, b"")
-}
-
-// Runs on a file of these bytes, which is answered so.
-fn expect_answer(rt: &impl Abort, alloc: Global, bytes: &[u8], answer: &[u8]) -> Result<(), Fail> {
-    let mut source = source_of(alloc, bytes)?;
-    expect_ample(rt, alloc, &mut source, Status::Done, answer, b"")
-}
-
-#[test]
-fn a_conjunction_that_has_a_solution(rt: HostRuntime) -> Result<(), Fail> {
-    let loops = b"symbol f/2, a/0. solve exists X Y: (X = f(X, Y) & f(X, a) = X).";
-    expect_answer(&rt, rt.alloc(), loops, ANSWER)
-}
-
-#[test]
-fn a_conjunction_that_has_none(rt: HostRuntime) -> Result<(), Fail> {
-    let clash = b"symbol f/1, a/0, b/0. solve exists X Y: (f(X) = f(Y) & X = a & Y = b).";
-    expect_answer(&rt, rt.alloc(), clash, b"1 false\n")
-}
-
-#[test]
-fn an_application_is_no_constant(rt: HostRuntime) -> Result<(), Fail> {
-    let clash = b"symbol f/1, a/0. solve exists X: f(X) = a.";
-    expect_answer(&rt, rt.alloc(), clash, b"1 false\n")
-}
-
-#[test]
-fn a_loop_is_no_constant(rt: HostRuntime) -> Result<(), Fail> {
-    let clash = b"symbol f/1, a/0. solve exists X Y: (X = f(Y) & Y = f(X) & f(a) = X).";
-    expect_answer(&rt, rt.alloc(), clash, b"1 false\n")
-}
-
-// Runs on a file of these bytes, which is refused so.
-fn expect_refused(rt: &impl Abort, alloc: Global, bytes: &[u8], line: &[u8]) -> Result<(), Fail> {
-    let mut source = source_of(alloc, bytes)?;
-    expect_ample(rt, alloc, &mut source, Status::Refused, b"", line)
-}
-
-#[test]
-fn what_is_not_in_the_form_is_refused(rt: HostRuntime) -> Result<(), Fail> {
-    let alloc = rt.alloc();
-    expect_refused(
+    expect_ample(
         &rt,
         alloc,
-        b"symbol f/1. solve finite(X).",
-        b"fault 12 notbuilt\n",
-    )?;
-    expect_refused(&rt, alloc, b"solve exists X: X = Y.", b"fault 0 notbuilt\n")
+        &mut source,
+        Status::Done,
+        ANSWER,
+        b"",
+        "one question",
+    )
+}
+
+// What a run on a file of a text does: the text, the status, and what out and err took.
+type Case = (&'static str, Status, &'static str, &'static str);
+
+fn expect_cases(rt: &impl Abort, alloc: Global, cases: &[Case]) -> Result<(), Fail> {
+    for &(text, status, written, line) in cases {
+        let mut source = source_of(alloc, text.as_bytes())?;
+        expect_ample(
+            rt,
+            alloc,
+            &mut source,
+            status,
+            written.as_bytes(),
+            line.as_bytes(),
+            text,
+        )?;
+    }
+    Ok(())
 }
 
 #[test]
-fn a_second_question_is_refused(rt: HostRuntime) -> Result<(), Fail> {
-    let two = b"symbol f/1. solve exists X: X = f(X). solve exists X: X = X.";
-    expect_refused(&rt, rt.alloc(), two, b"fault 38 notbuilt\n")
+fn questions_are_answered(rt: HostRuntime) -> Result<(), Fail> {
+    let cases: &[Case] = &[
+        (
+            "symbol f/1, a/0. solve exists X: f(X) = a.",
+            Status::Done,
+            "1 false\n",
+            "",
+        ),
+        (
+            "symbol f/2, a/0. solve exists X Y: (X = f(X, Y) & f(X, a) = X).",
+            Status::Done,
+            "1 true\n",
+            "",
+        ),
+        (
+            "symbol f/1, a/0, b/0. solve exists X Y: (f(X) = f(Y) & X = a & Y = b).",
+            Status::Done,
+            "1 false\n",
+            "",
+        ),
+        (
+            "symbol f/1, a/0. solve exists X Y: (X = f(Y) & Y = f(X) & f(a) = X).",
+            Status::Done,
+            "1 false\n",
+            "",
+        ),
+        (
+            "symbol f/1. solve exists X: X = f(X). solve exists X: X = X.",
+            Status::Done,
+            "1 true\n2 true\n",
+            "",
+        ),
+        ("solve exists X: $0 = $0(X).", Status::Done, "1 false\n", ""),
+        (
+            "solve exists X: X = $7(X). solve exists X Y: $1(X) = $1(Y).",
+            Status::Done,
+            "1 true\n2 true\n",
+            "",
+        ),
+        (
+            "solve exists X: X = $0. symbol f/1. solve exists X: X = f(X). symbol a/0. solve exists X: f(X) = a.",
+            Status::Done,
+            "1 true\n2 true\n3 false\n",
+            "",
+        ),
+    ];
+    expect_cases(&rt, rt.alloc(), cases)
 }
 
 #[test]
@@ -123,20 +152,15 @@ fn reads_and_writes_in_pieces(rt: HostRuntime) -> Result<(), Fail> {
     source.most(1);
     let mut out = MemorySink::new(alloc, 100)?;
     out.most(3);
-    expect_run(&rt, alloc, &mut source, &mut out, Status::Done, ANSWER, b"")
-}
-
-#[test]
-fn a_fault_is_named(rt: HostRuntime) -> Result<(), Fail> {
-    let alloc = rt.alloc();
-    let mut source = source_of(alloc, b"#")?;
-    expect_ample(
+    expect_run(
         &rt,
         alloc,
         &mut source,
-        Status::Refused,
+        &mut out,
+        Status::Done,
+        ANSWER,
         b"",
-        b"fault 0 notbuilt\n",
+        "in pieces",
     )
 }
 
@@ -154,6 +178,7 @@ fn each_call_of_the_source_fails(rt: HostRuntime) -> Result<(), Fail> {
             Status::ReadFault,
             b"",
             b"fault read\n",
+            "a failed call",
         )?;
     }
     Ok(())
@@ -171,6 +196,7 @@ fn a_name_that_is_not_held(rt: HostRuntime) -> Result<(), Fail> {
         Status::ReadFault,
         b"",
         b"fault read\n",
+        "a missing file",
     )
 }
 
@@ -189,6 +215,7 @@ fn the_third_write_fails(rt: HostRuntime) -> Result<(), Fail> {
         Status::WriteFault,
         b"1 tr",
         b"fault write\n",
+        "a failed write",
     )
 }
 
@@ -205,6 +232,7 @@ fn little_room(rt: HostRuntime) -> Result<(), Fail> {
         Status::WriteFault,
         b"1 true",
         b"fault write\n",
+        "little room",
     )
 }
 

@@ -1,21 +1,29 @@
-use Rattle.std.proofs.Common.{◌*◌, ◌+◌}
-use Rattle.formula_reader.specs.Input.{left_of}
+use Rattle.std.proofs.Common.{◌≡◌, ◌<◌, ◌∷◌, length}
 use Rattle.formula_ast.specs.Terms.{list_of}
-use Rattle.formula_reader.proofs.Shifts.{size}
+use Rattle.formula_ast.specs.declared.token.TokenKind.TheVariants as k
+use Rattle.formula_grammar.specs.Machine as m
+use Rattle.formula_reader.specs.Input.{place_of}
+use Rattle.formula_reader.specs.Heads.{head_of}
+use Rattle.formula_reader.specs.Faults.{fault_of}
+use Rattle.formula_reader.proofs.Steps.{room}
 use Rattle.formula_reader.proofs.TermReading.{Gathered}
 use Rattle.formula_reader.proofs.reader.Reader.+terms.Given as goal
 
 abbrev pub decreases-term : goal.decreases-term
-decreases-term l = 2 * size (left_of l.self.now)
+decreases-term l = room l.self.now
 
 abbrev pub decreases-arguments : goal.decreases-arguments
-decreases-arguments l = 2 * size (left_of l.self.now)
+decreases-arguments l = room l.self.now
 
-abbrev pub decreases-inside : goal.decreases-inside
-decreases-inside l = 2 * size (left_of l.self.now) + 1
+abbrev pub invariant-arguments-more : goal.invariant-arguments-more
+invariant-arguments-more l = record {
+  gathered : Gathered l.signature (place_of l.place).bound l.fn.self l.self (list_of l.found);
+  faults : (s : m.Stack) → fault_of l.signature l.fn.self (m.arguments (head_of l.head) (place_of l.place) ∷ s)
+      ≡ fault_of l.signature l.self (m.more_arguments (head_of l.head) (length (list_of l.found)) (m.deeper (place_of l.place)) ∷ m.mark k.RightParen ∷ s);
+  bytes : l.self.bytes ≡ l.fn.self.bytes;
+  on : l.fn.self.at < l.self.at;
+  less : room l.self < room l.fn.self;
+}
 
-abbrev pub invariant-inside-list : goal.invariant-inside-list
-invariant-inside-list l = Gathered l.signature l.names l.room (list_of l.found) l.fn.self l.self
-
-abbrev pub decreases-inside-list : goal.decreases-inside-list
-decreases-inside-list l = size (left_of l.self)
+abbrev pub decreases-arguments-more : goal.decreases-arguments-more
+decreases-arguments-more l = room l.self

@@ -1,0 +1,11 @@
+pub mod Answering
+pub mod Cleared
+pub mod Flagging
+pub mod Following
+pub mod Led
+pub mod Naming
+pub mod Renaming
+pub mod Stored
+pub mod Storing
+pub mod Tables
+pub mod Telling

@@ -1,0 +1,4 @@
+pub mod Flags
+pub mod Names
+pub mod Outcomes
+pub mod Stores

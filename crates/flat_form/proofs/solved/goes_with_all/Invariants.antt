@@ -1,0 +1,7 @@
+use Rattle.std.proofs.Common.{take}
+use Rattle.std.specs.Prelude.{All}
+use Rattle.flat_form.specs.Beside.{GoesWith}
+use Rattle.flat_form.proofs.solved.goes_with_all.Given as goal
+
+abbrev pub invariant-loop-i : goal.invariant-loop-i
+invariant-loop-i l = All (GoesWith l.atom) (take l.i l.b)

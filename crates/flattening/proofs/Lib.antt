@@ -1,0 +1,13 @@
+pub mod Bridge
+pub mod ByForm
+pub mod CubesMean
+pub mod EachCube
+pub mod Filled
+pub mod Given
+pub mod Meaning
+pub mod Readings
+pub mod Steps
+pub mod Table
+pub mod Ties
+pub mod Values
+pub mod Whole

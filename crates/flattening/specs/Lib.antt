@@ -1,0 +1,5 @@
+pub mod Conditions
+pub mod Flattening
+pub mod Numbers
+pub mod Plain
+pub mod Tables

@@ -1,0 +1,117 @@
+ghost use Rattle.std.specs.Prelude.{◌≡◌, map, IfOk};
+ghost use Rattle.flat_form.specs.Normals.{norm_of, norms_of};
+ghost use Rattle.flattening.specs.Flattening.{placed, renamed, denied_parts, denied, all_denied};
+
+use crate::terms::sum;
+use flat_form::{Args, Basic, Cube, Cubes, Flat, Normal, Normals, Parts};
+use std::alloc::Global;
+use tree_model::{NoMemory, Places};
+
+// A cube's variable, where so many are in scope: the first are the arguments, and the others come behind the scope.
+fn place(variable: usize, args: &Places, scope: usize) -> Result<usize, NoMemory>
+    ensures { IfOk result (λ number. number ≡ placed args.now scope variable) }
+{
+    if variable < args.len() {
+        return Ok(*args.get(variable));
+    }
+    sum(scope, variable - args.len())
+}
+
+// The atom with its variables in their places.
+fn place_atom(alloc: Global, atom: &Flat, args: &Places, scope: usize) -> Result<Flat, NoMemory>
+    ensures { IfOk result (λ made. made ≡ renamed (placed args.now scope) atom.now) }
+{
+    match atom {
+        Flat::VarVar(u, v) => {
+            let left = place(*u, args, scope)?;
+            let right = place(*v, args, scope)?;
+            Ok(Flat::VarVar(left, right))
+        }
+        Flat::VarTerm(u, symbol, xs) => {
+            let left = place(*u, args, scope)?;
+            let arguments = place_args(alloc, xs, args, scope)?;
+            Ok(Flat::VarTerm(left, *symbol, arguments))
+        }
+        Flat::Finite(u) => {
+            let number = place(*u, args, scope)?;
+            Ok(Flat::Finite(number))
+        }
+    }
+}
+
+fn place_args(alloc: Global, xs: &Args, args: &Places, scope: usize) -> Result<Args, NoMemory>
+    ensures { IfOk result (λ made. made ≡ map (placed args.now scope) xs.now) }
+{
+    let mut made = Args::new(alloc);
+    for i in 0..xs.len() {
+        let number = place(*xs.get(i), args, scope)?;
+        made.push(number)?;
+    }
+    Ok(made)
+}
+
+fn place_basic(alloc: Global, basic: &Basic, args: &Places, scope: usize) -> Result<Basic, NoMemory>
+    ensures { IfOk result (λ made. made ≡ map (renamed (placed args.now scope)) basic.now) }
+{
+    let mut made = Basic::new(alloc);
+    for i in 0..basic.len() {
+        let atom = place_atom(alloc, basic.get(i), args, scope)?;
+        made.push(atom)?;
+    }
+    Ok(made)
+}
+
+// Each part of a cube as a negated conjunction.
+#[tactic(auto, using(flat_form::proofs::Ties::norm_rules))]
+fn deny_parts(
+    alloc: Global,
+    parts: &Parts,
+    args: &Places,
+    scope: usize,
+) -> Result<Normals, NoMemory>
+    ensures { IfOk result (λ made. norms_of made ≡ denied_parts (placed args.now scope) parts.now) }
+{
+    let mut made = Normals::new(alloc);
+    for i in 0..parts.len() {
+        let part = parts.get(i);
+        let basic = place_basic(alloc, &part.basic, args, scope)?;
+        made.push(Normal {
+            bound: part.inner,
+            basic,
+            parts: Normals::new(alloc),
+        })?;
+    }
+    Ok(made)
+}
+
+// The cube does not hold at the arguments.
+#[tactic(auto, using(flat_form::proofs::Ties::norm_rules))]
+fn deny(alloc: Global, cube: &Cube, args: &Places, scope: usize) -> Result<Normal, NoMemory>
+    ensures { IfOk result (λ made. norm_of made ≡ denied args.now scope cube.now) }
+{
+    let basic = place_basic(alloc, &cube.basic, args, scope)?;
+    let parts = deny_parts(alloc, &cube.parts, args, scope)?;
+    Ok(Normal {
+        bound: cube.outer,
+        basic,
+        parts,
+    })
+}
+
+// None of the cubes holds at the arguments.
+#[tactic(auto, using(flat_form::proofs::Ties::norm_rules))]
+pub(crate) fn deny_all(
+    alloc: Global,
+    cubes: &Cubes,
+    args: &Places,
+    scope: usize,
+) -> Result<Normals, NoMemory>
+    ensures { IfOk result (λ made. norms_of made ≡ all_denied args.now scope cubes.now) }
+{
+    let mut made = Normals::new(alloc);
+    for i in 0..cubes.len() {
+        let denied = deny(alloc, cubes.get(i), args, scope)?;
+        made.push(denied)?;
+    }
+    Ok(made)
+}

@@ -1,0 +1,15 @@
+//! Every formula as a nest of negated conjunctions of flat atoms that means the same.
+#![tactic(auto)]
+
+mod atoms;
+mod conjunctions;
+mod cubes;
+mod numbers;
+mod solved;
+mod terms;
+
+pub use conjunctions::flatten;
+pub use solved::{Key, Solved};
+
+#[cfg(test)]
+mod tests;

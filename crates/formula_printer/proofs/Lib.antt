@@ -1,0 +1,17 @@
+pub mod Assigned
+pub mod Back
+pub mod Checked
+pub mod Closing
+pub mod Decimals
+pub mod Fitting
+pub mod Fronts
+pub mod Good
+pub mod Layers
+pub mod Levels
+pub mod Lists
+pub mod Over
+pub mod Pieces
+pub mod Places
+pub mod Printed
+pub mod Reading
+pub mod Rising

@@ -1,0 +1,349 @@
+use super::*;
+use crate::checks::{are_names, formula_fits};
+use formula_ast::{Formula, Names, Term, Terms};
+use signature::{Kind, Signature};
+use sqlite_items::Boxed;
+use std::alloc::Global;
+use std::test::*;
+use tree_model::{Assignment, NoMemory, Node, Places, Symbol};
+
+// A name in a list.
+fn add(alloc: Global, names: &mut Names, name: &str) -> Result<(), Fail> {
+    names.push(String::from_str(alloc, name)?)?;
+    Ok(())
+}
+
+// The names `X` and `Y`.
+fn two_names(alloc: Global) -> Result<Names, Fail> {
+    let mut names = Names::new(alloc);
+    add(alloc, &mut names, "X")?;
+    add(alloc, &mut names, "Y")?;
+    Ok(names)
+}
+
+// The symbols `f`, of one argument, `g`, of two, and `a`, of none, and the predicates `p`, of two, and `q`, of none.
+fn declared(alloc: Global) -> Result<Signature, Fail> {
+    let mut sig = Signature::new(alloc);
+    sig.declare("f", Kind::Symbol, 1)?;
+    sig.declare("g", Kind::Symbol, 2)?;
+    sig.declare("a", Kind::Symbol, 0)?;
+    sig.declare("p", Kind::Pred, 2)?;
+    sig.declare("q", Kind::Pred, 0)?;
+    Ok(sig)
+}
+
+// A symbol applied to these variables.
+fn applied(alloc: Global, symbol: Symbol, variables: &[usize]) -> Result<Term, Fail> {
+    let mut terms = Terms::new(alloc);
+    for &x in variables {
+        terms.push(Term::Var(x))?;
+    }
+    Ok(Term::App(symbol, terms))
+}
+
+fn boxed(alloc: Global, f: Formula) -> Result<Boxed<Formula>, Fail> {
+    match Boxed::new(alloc, f) {
+        Ok(b) => Ok(b),
+        Err(_) => Err(Fail::from(NoMemory)),
+    }
+}
+
+// What is last on a stack.
+fn popped(alloc: Global, stack: &mut Vec<Formula>) -> Result<Boxed<Formula>, Fail> {
+    match stack.pop() {
+        Some(f) => boxed(alloc, f),
+        None => Err(Fail::from(NoMemory)),
+    }
+}
+
+// The formula that is written in postfix notation: `t` and `f` for truth and falsity, `x`, `y` and `z` for X = X, Y = Y and
+// X = Y, `~` behind what is negated, `E` and `A` for quantifiers over X, `e` and `a` for quantifiers over Y, and the marks
+// `&`, `|`, `>` and `=` behind both sides.
+fn formula(alloc: Global, code: &str) -> Result<Formula, Fail> {
+    let mut stack = Vec::new(alloc);
+    for byte in code.as_bytes() {
+        let next = match *byte {
+            b't' => Formula::True,
+            b'f' => Formula::False,
+            b'x' => Formula::Eq(Term::Var(0), Term::Var(0)),
+            b'y' => Formula::Eq(Term::Var(1), Term::Var(1)),
+            b'z' => Formula::Eq(Term::Var(0), Term::Var(1)),
+            b'~' => Formula::Not(popped(alloc, &mut stack)?),
+            b'E' => Formula::Exists(0, popped(alloc, &mut stack)?),
+            b'A' => Formula::Forall(0, popped(alloc, &mut stack)?),
+            b'e' => Formula::Exists(1, popped(alloc, &mut stack)?),
+            b'a' => Formula::Forall(1, popped(alloc, &mut stack)?),
+            mark => {
+                let right = popped(alloc, &mut stack)?;
+                let left = popped(alloc, &mut stack)?;
+                match mark {
+                    b'&' => Formula::And(left, right),
+                    b'|' => Formula::Or(left, right),
+                    b'>' => Formula::Imp(left, right),
+                    _ => Formula::Iff(left, right),
+                }
+            }
+        };
+        stack.push(next)?;
+    }
+    match stack.pop() {
+        Some(f) => Ok(f),
+        None => Err(Fail::from(NoMemory)),
+    }
+}
+
+// What is printed for the formula in postfix notation, over the variables X and Y.
+fn printed(alloc: Global, code: &str) -> Result<String, Fail> {
+    let f = formula(alloc, code)?;
+    checked_print(alloc, &Signature::new(alloc), &f)
+}
+
+// What is printed for a formula over the variables X and Y.
+fn checked_print(alloc: Global, sig: &Signature, f: &Formula) -> Result<String, Fail> {
+    let names = two_names(alloc)?;
+    if !are_names(sig, &names) {
+        return Err(Fail::from(NoMemory));
+    }
+    if !formula_fits(sig, names.len(), f) {
+        return Err(Fail::from(NoMemory));
+    }
+    Ok(print_formula(alloc, sig, &names, f)?)
+}
+
+// Formulas in postfix notation, each with its text: an operator or a quantifier of each kind at each place, and more.
+const TEXTS: &str = "tf=f&: (true <-> false) & false
+ftf=&: false & (true <-> false)
+tf>f&: (true -> false) & false
+ftf>&: false & (true -> false)
+tf|f&: (true | false) & false
+ftf|&: false & (true | false)
+tf&f&: true & false & false
+ftf&&: false & (true & false)
+t~f&: ~true & false
+ft~&: false & ~true
+tEf&: exists X: true & false
+ftE&: false & exists X: true
+tAf&: forall X: true & false
+ftA&: false & forall X: true
+tf&: true & false
+ft&: false & true
+tf=f|: (true <-> false) | false
+ftf=|: false | (true <-> false)
+tf>f|: (true -> false) | false
+ftf>|: false | (true -> false)
+tf|f|: true | false | false
+ftf||: false | (true | false)
+tf&f|: true & false | false
+ftf&|: false | true & false
+t~f|: ~true | false
+ft~|: false | ~true
+tEf|: exists X: true | false
+ftE|: false | exists X: true
+tAf|: forall X: true | false
+ftA|: false | forall X: true
+tf|: true | false
+ft|: false | true
+tf=f>: (true <-> false) -> false
+ftf=>: false -> (true <-> false)
+tf>f>: (true -> false) -> false
+ftf>>: false -> true -> false
+tf|f>: true | false -> false
+ftf|>: false -> true | false
+tf&f>: true & false -> false
+ftf&>: false -> true & false
+t~f>: ~true -> false
+ft~>: false -> ~true
+tEf>: exists X: true -> false
+ftE>: false -> exists X: true
+tAf>: forall X: true -> false
+ftA>: false -> forall X: true
+tf>: true -> false
+ft>: false -> true
+tf=f=: (true <-> false) <-> false
+ftf==: false <-> (true <-> false)
+tf>f=: true -> false <-> false
+ftf>=: false <-> true -> false
+tf|f=: true | false <-> false
+ftf|=: false <-> true | false
+tf&f=: true & false <-> false
+ftf&=: false <-> true & false
+t~f=: ~true <-> false
+ft~=: false <-> ~true
+tEf=: exists X: true <-> false
+ftE=: false <-> exists X: true
+tAf=: forall X: true <-> false
+ftA=: false <-> forall X: true
+tf=: true <-> false
+ft=: false <-> true
+tf=~: ~(true <-> false)
+tf>~: ~(true -> false)
+tf|~: ~(true | false)
+tf&~: ~(true & false)
+t~~: ~~true
+tE~: ~exists X: true
+tA~: ~forall X: true
+t~: ~true
+tf=e: exists Y: (true <-> false)
+tf>e: exists Y: (true -> false)
+tf|e: exists Y: (true | false)
+tf&e: exists Y: (true & false)
+t~e: exists Y: ~true
+tEe: exists Y X: true
+tAe: exists Y: forall X: true
+te: exists Y: true
+tf=a: forall Y: (true <-> false)
+tf>a: forall Y: (true -> false)
+tf|a: forall Y: (true | false)
+tf&a: forall Y: (true & false)
+t~a: forall Y: ~true
+tEa: forall Y: exists X: true
+tAa: forall Y X: true
+ta: forall Y: true
+tft>>: true -> false -> true
+tf>t>: (true -> false) -> true
+zxy&&~eE: exists X Y: ~(X = Y & (X = X & Y = Y))
+t~tf||: ~true | (true | false)
+teEE: exists X X Y: true
+teaAE: exists X: forall X Y: exists Y: true
+te~E: exists X: ~exists Y: true
+tef&E: exists X: (exists Y: true & false)";
+
+#[test]
+fn parentheses_stand_where_they_must_and_nowhere_else(rt: HostRuntime) -> Result<(), Fail> {
+    for line in TEXTS.lines() {
+        let Some((code, text)) = line.split_once(": ") else {
+            return Err(Fail::from(NoMemory));
+        };
+        assert_eq!(rt; printed(rt.alloc(), code)?.as_str(), text, "{code}");
+    }
+    Ok(())
+}
+
+#[test]
+fn each_atom_is_written(rt: HostRuntime) -> Result<(), Fail> {
+    let alloc = rt.alloc();
+    let sig = declared(alloc)?;
+    let mut arguments = Terms::new(alloc);
+    arguments.push(Term::Var(1))?;
+    arguments.push(applied(alloc, Symbol::Further(0), &[])?)?;
+    let constant = applied(alloc, Symbol::Named(2), &[])?;
+    let one = Formula::Eq(Term::Var(0), applied(alloc, Symbol::Named(0), &[0])?);
+    let quantified = Formula::Exists(1, boxed(alloc, one)?);
+    assert_eq!(rt;
+        checked_print(alloc, &sig, &quantified)?.as_str(),
+        "exists Y: X = f(X)"
+    );
+    let differ = Formula::Differ(
+        applied(alloc, Symbol::Named(1), &[0, 1])?,
+        constant.copy(alloc)?,
+    );
+    assert_eq!(rt;
+        checked_print(alloc, &sig, &differ)?.as_str(),
+        "g(X, Y) != a"
+    );
+    let further = applied(alloc, Symbol::Further(18446744073709551615), &[1, 1, 1])?;
+    let finite = checked_print(alloc, &sig, &Formula::Finite(further))?;
+    assert_eq!(rt; finite.as_str(), "finite($18446744073709551615(Y, Y, Y))");
+    let call = Formula::Call(3, arguments);
+    assert_eq!(rt; checked_print(alloc, &sig, &call)?.as_str(), "p(Y, $0)");
+    let alone = Formula::Call(4, Terms::new(alloc));
+    assert_eq!(rt; checked_print(alloc, &sig, &alone)?.as_str(), "q");
+    let lost = Formula::Win(3, 0, Term::Var(0));
+    assert_eq!(rt; checked_print(alloc, &sig, &lost)?.as_str(), "win(p, 0, X)");
+    let long = Formula::Win(3, 1000, constant);
+    assert_eq!(rt;
+        checked_print(alloc, &sig, &long)?.as_str(),
+        "win(p, 1000, a)"
+    );
+    Ok(())
+}
+
+// The formula with a thousand marks, nested to the left or to the right.
+fn deep(alloc: Global, to_the_left: bool) -> Result<Formula, Fail> {
+    let mut f = Formula::True;
+    for _ in 0..1000 {
+        let nested = boxed(alloc, f)?;
+        let other = boxed(alloc, Formula::True)?;
+        f = if to_the_left {
+            Formula::And(nested, other)
+        } else {
+            Formula::And(other, nested)
+        };
+    }
+    Ok(f)
+}
+
+#[test]
+fn a_deep_formula_is_written(rt: HostRuntime) -> Result<(), Fail> {
+    let sig = Signature::new(rt.alloc());
+    let left = checked_print(rt.alloc(), &sig, &deep(rt.alloc(), true)?)?;
+    assert_eq!(rt; left.len(), 4 * 1001 + 3 * 1000);
+    let right = checked_print(rt.alloc(), &sig, &deep(rt.alloc(), false)?)?;
+    assert_eq!(rt; right.len(), 4 * 1001 + 3 * 1000 + 2 * 999);
+    Ok(())
+}
+
+// A list of places.
+fn places(alloc: Global, numbers: &[usize]) -> Result<Places, Fail> {
+    let mut places = Places::new(alloc);
+    for &number in numbers {
+        places.push(number)?;
+    }
+    Ok(places)
+}
+
+// A node with this symbol and these children.
+fn node(alloc: Global, symbol: Symbol, children: &[usize]) -> Result<Node, Fail> {
+    let children = places(alloc, children)?;
+    Ok(Node { symbol, children })
+}
+
+// What is printed for an assignment of these nodes and roots.
+fn assigned(
+    alloc: Global,
+    names: &Names,
+    nodes: Vec<Node>,
+    roots: &[usize],
+) -> Result<String, Fail> {
+    let sig = declared(alloc)?;
+    let Ok(assignment) = Assignment::new(nodes, places(alloc, roots)?) else {
+        return Err(Fail::from(NoMemory));
+    };
+    if names.len() == 0 || assignment.roots().len() != names.len() {
+        return Err(Fail::from(NoMemory));
+    }
+    if !are_names(&sig, names) {
+        return Err(Fail::from(NoMemory));
+    }
+    if !sig.fits(assignment.nodes()) {
+        return Err(Fail::from(NoMemory));
+    }
+    Ok(print_assignment(alloc, &sig, names, &assignment)?)
+}
+
+#[test]
+fn an_assignment_is_written(rt: HostRuntime) -> Result<(), Fail> {
+    let alloc = rt.alloc();
+    let mut loops = Vec::new(alloc);
+    loops.push(node(alloc, Symbol::Further(0), &[0])?)?;
+    let mut names = Names::new(alloc);
+    add(alloc, &mut names, "X")?;
+    let text = assigned(alloc, &names, loops, &[0])?;
+    assert_eq!(rt; text.as_str(), "exists V0: (V0 = $0(V0) & X = V0)");
+    let mut shared = Vec::new(alloc);
+    shared.push(node(alloc, Symbol::Named(1), &[1, 2])?)?;
+    shared.push(node(alloc, Symbol::Named(2), &[])?)?;
+    shared.push(node(alloc, Symbol::Named(0), &[0])?)?;
+    let mut numbered = Names::new(alloc);
+    add(alloc, &mut numbered, "V1")?;
+    add(alloc, &mut numbered, "Y")?;
+    let text = assigned(alloc, &numbered, shared, &[2, 2])?;
+    let wanted = "exists V0 V2 V3: (V0 = g(V2, V3) & V2 = a & V3 = f(V0) & V1 = V3 & Y = V3)";
+    assert_eq!(rt; text.as_str(), wanted);
+    Ok(())
+}
+
+#[test]
+fn laws_can_be_called(_rt: HostRuntime) {
+    well_formed_is_printable();
+}

@@ -1,0 +1,32 @@
+use Rattle.std.proofs.Common.{◌∙◌, ap, sym}
+use Rattle.std.proofs.lemmas.List.{nil_from_length}
+use Rattle.std.specs.Iterator.Adapters.{rev_source}
+use Rattle.std.specs.Slice.Iter.{iter_rest}
+use Rattle.formula_ast.proofs.Ties.{forall_form}
+use Rattle.formula_ast.specs.Forms as form
+use Rattle.formula_ast.specs.Forms.{form_of}
+use Rattle.formula_grammar.specs.Meaning.{behind}
+use Rattle.formula_reader.proofs.Forming.{behind_step}
+use Rattle.formula_reader.proofs.parsed.universal.Goals as goal
+
+pub loop-variable-init : goal.loop-variable-init
+loop-variable-init c = record {
+  next = tt;
+  finite = tt;
+  form = ap (λ i. behind form.forall (iter_rest (rev_source i)) (form_of c.args.inner.formula)) c.into_iter-variable-iterator.ensures.into_iter_gives
+      ∙ ap (λ i. behind form.forall (iter_rest i) (form_of c.args.inner.formula)) c.rev-variable-items.ensures.source
+      ∙ ap (λ l. behind form.forall l (form_of c.args.inner.formula)) c.iter.ensures.rest;
+}
+
+pub loop-variable-preserved : goal.loop-variable-preserved
+loop-variable-preserved c = record {
+  next = tt;
+  finite = tt;
+  form = behind_step form.forall _ _ _ _ _ _ c.in-Some.ensures.steps
+      (forall_form c.in-Some.variable.now c.in_ok-new.field-0 ∙ ap (λ g. form.forall c.in-Some.variable.now (form_of g)) c.in_ok-new.ensures)
+      c.loop-variable.invariant.form;
+}
+
+pub returns-clause-formula : goal.returns-clause-formula
+returns-clause-formula c =
+    ap form_of c.other.ensures.formula ∙ sym (ap (λ l. behind form.forall l (form_of c.loop-variable.formula)) (nil_from_length _ c.in-None.ensures.steps.0)) ∙ c.loop-variable.invariant.form
