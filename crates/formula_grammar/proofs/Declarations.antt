@@ -9,10 +9,10 @@ use Rattle.tree_model.specs.Signatures.{Signature, Entry, declared_at}
 use Rattle.signature.specs.Names.{StandsAt, HasDistinctNames, place_of}
 use Rattle.signature.proofs.Standing.{found_there}
 use Rattle.formula_ast.specs.declared.pred.Pred.{Pred}
-use Rattle.formula_ast.specs.WellFormed.{predicate_at, predicates_from}
+use Rattle.formula_ast.specs.WellFormed.{AreDistinct, predicate_at, predicates_from}
 use Rattle.formula_grammar.specs.Written.{Text, Declaration}
 use Rattle.formula_grammar.specs.Checks.{declared, entry_of, value_of}
-use Rattle.formula_grammar.specs.Lawful.{AreDistinct, symbol_entry, MayDeclareAll}
+use Rattle.formula_grammar.specs.Lawful.{symbol_entry, MayDeclareAll}
 use Rattle.formula_grammar.proofs.WrittenWords.{IsName, AreNames}
 use Rattle.formula_grammar.proofs.Occurrences.{push_cases, push_distinct}
 use Rattle.formula_grammar.proofs.FormedTerms.{StaysIn, HasFewArguments}

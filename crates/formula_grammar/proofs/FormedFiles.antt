@@ -10,10 +10,10 @@ use Rattle.formula_ast.specs.declared.pred.Pred.{Pred}
 use Rattle.formula_ast.specs.declared.statement.Statement.{Statement}
 use Rattle.formula_ast.specs.Forms.{form_of}
 use Rattle.formula_ast.specs.Tokens.{end}
-use Rattle.formula_ast.specs.WellFormed.{predicates_from, IsNamedOver, IsStatementOver, IsPredOver, IsWellFormed}
+use Rattle.formula_ast.specs.WellFormed.{AreDistinct, predicates_from, IsNamedOver, IsStatementOver, IsPredOver, IsWellFormed}
 use Rattle.formula_grammar.specs.Written.{Text, WrittenFormula, WrittenStatement, symbols, predicate, solve}
 use Rattle.formula_grammar.specs.Checks.{entry_of}
-use Rattle.formula_grammar.specs.Lawful.{AreDistinct, UsesNames, IsSmall, MayDefine, MayAsk, AreLawful, declared_by, symbol_entry}
+use Rattle.formula_grammar.specs.Lawful.{UsesNames, IsSmall, MayDefine, MayAsk, AreLawful, declared_by, symbol_entry}
 use Rattle.formula_grammar.specs.Meaning.{variables_in, first_occurrences, number_in, Stands, IsStatement, IsPredicate, Makes}
 use Rattle.formula_grammar.specs.WellFormedLaws.{FilesAreWellFormed}
 use Rattle.formula_grammar.proofs.WordKinds.{words_of_kinds}

@@ -6,7 +6,7 @@ use Rattle.std.proofs.lemmas.List.Folds.{list_any-append}
 use Rattle.std.proofs.lemmas.Slice.Eq.{bytes_eq-Decides}
 use Rattle.formula_grammar.specs.Written.{Text}
 use Rattle.formula_grammar.specs.Checks.{is_among}
-use Rattle.formula_grammar.specs.Lawful.{AreDistinct}
+use Rattle.formula_ast.specs.WellFormed.{AreDistinct}
 use Rattle.formula_grammar.specs.Meaning.{first_occurrences, number_in}
 use Rattle.formula_grammar.proofs.WrittenWords.{AreVariables, join}
 

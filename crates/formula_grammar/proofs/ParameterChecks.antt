@@ -6,7 +6,8 @@ use Rattle.std.proofs.lemmas.Slice.Eq.{bytes_eq-Decides}
 use Rattle.formula_grammar.specs.Written.{Text}
 use Rattle.formula_grammar.specs.Machine.{has_parameter}
 use Rattle.formula_grammar.specs.Checks.{Environment, is_among}
-use Rattle.formula_grammar.specs.Lawful.{IsShort, AreDistinct}
+use Rattle.formula_ast.specs.WellFormed.{AreDistinct}
+use Rattle.formula_grammar.specs.Lawful.{IsShort}
 use Rattle.formula_grammar.proofs.Checked.{Later, checks_parameters}
 use Rattle.formula_grammar.proofs.Roles.{allowed, granted}
 

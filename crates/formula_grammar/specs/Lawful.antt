@@ -1,7 +1,8 @@
 -- Which written statements are lawful: names are used as they are declared, and no limit is passed.
-use Rattle.std.specs.Prelude.{◌≡◌, ℕ, suc, ◌+◌, ◌≤◌, ◌<◌, max, Bool, true, ◌&&◌, List, [], ◌∷◌, ◌++◌, length, map, All, None, Some, slice_get}
+use Rattle.std.specs.Prelude.{◌≡◌, ℕ, suc, ◌+◌, ◌≤◌, ◌<◌, max, Bool, true, ◌&&◌, List, [], ◌∷◌, ◌++◌, length, map, All, None, Some}
 use Rattle.tree_model.specs.declared.kind.Kind.TheVariants as kind
 use Rattle.tree_model.specs.Signatures.{Signature, Entry}
+use Rattle.formula_ast.specs.WellFormed.{AreDistinct}
 use Rattle.formula_grammar.specs.Written.{Text, WrittenTerm, variable, named, further, WrittenTerms, no_terms, one_more, WrittenFormula, truth, falsity, finite, win, equal, differ, call, no, exists, forall, group, and, or, imp, iff, Declaration, WrittenStatement, symbols, predicate, solve}
 use Rattle.formula_grammar.specs.Checks.{declared, entry_of, count_of, value_of, index_of, is_among}
 
@@ -167,10 +168,6 @@ pub record MayDeclare (σ : Signature) (d : Declaration) : Type 0 where
 abbrev pub MayDeclareAll : Signature → List Declaration → Type 0
 MayDeclareAll σ [] = Unit {0}
 MayDeclareAll σ (d ∷ ds) = MayDeclare σ d × MayDeclareAll (σ ++ symbol_entry d ∷ []) ds
-
--- no text stands at two places
-abbrev pub AreDistinct : List Text → Type 0
-AreDistinct texts = (text : Text) (i j : ℕ) → slice_get texts i ≡ Some text → slice_get texts j ≡ Some text → i ≡ j
 
 -- A predicate may be defined: its name is new and short, there are fewer than 1024 predicates, its parameters are
 -- distinct, short and at most 16, and its body uses names that are declared before and no other free variables.
