@@ -275,10 +275,7 @@ fewer_new marks p h = omega (arith, sum_by-set is_new marks p Open New h.0, ap i
 pub no_more_new : (marks : List Mark) (p : ℕ) → p < length marks → count_new (slice_set marks p Done) ≤ count_new marks
 no_more_new marks p w = omega (arith, sum_by-set is_new marks p Done New w)
 
-pub size_of_term : (basic : List Flat) (place : ℕ) → (s : ℕ) × HasTermAt basic place s → place < length basic
-size_of_term basic place (s, (t, ys, p)) = p.0
-
-pub is_left : (m : Mark) → ¬ (m ≡ Open) → ¬ (m ≡ Done) → m ≡ New
+is_left : (m : Mark) → ¬ (m ≡ Open) → ¬ (m ≡ Done) → m ≡ New
 is_left New a b = refl
 is_left Open a b = absurd (a refl)
 is_left Done a b = absurd (b refl)
@@ -295,3 +292,7 @@ module _ (basic : List Flat) (marks : List Mark) (walk : List Turn) (top next : 
   pub less_on : (longer : List Turn) (x : Turn) → HasMark marks next.place New → longer ≡ walk ++ x ∷ []
       → 2 * count_new (slice_set marks next.place Open) + length longer < 2 * count_new marks + length walk
   less_on longer x h e = omega (arith, fewer_new marks next.place h, ap length e, length-append walk (x ∷ []))
+
+  pub less_back : (shorter : List Turn) (at : Turn) → top.place < length marks → walk ≡ shorter ++ at ∷ []
+      → 2 * count_new (slice_set marks top.place Done) + length shorter < 2 * count_new marks + length walk
+  less_back shorter at w e = omega (arith, no_more_new marks top.place w, ap length e, length-append shorter (at ∷ []))

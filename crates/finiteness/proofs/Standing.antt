@@ -1,5 +1,5 @@
 -- Places of atoms in an ascending conjunction.
-use Rattle.std.proofs.Common.{ℕ, ◌≡◌, ◌<◌, ◌≤◌, ◌+◌, List, length, get_or, refl, sym, ap, ◌∙◌, subst, arith, inl, inr, ◌⊎◌, Some}
+use Rattle.std.proofs.Common.{ℕ, ◌≡◌, ◌<◌, ◌≤◌, ◌+◌, List, get_or, refl, sym, ap, ◌∙◌, subst, arith, inl, inr, ◌⊎◌, Some}
 use Rattle.std.specs.Prelude.{slice_get, Contains}
 use Rattle.std.proofs.lemmas.List.{get_or_default}
 use Rattle.std.proofs.lemmas.Option.{slice_get_within, get_or_from_slice_get}
@@ -55,11 +55,6 @@ module _ (xs : List Flat) (up : Ascends xs) where
     | inr (inl s) ↦ one_atom xs n a b p (subst (λ z. StandsAt xs z b) s (w, e))
     | inr (inr l) ↦ absurd (omega (arith, rises n k a b p (w, e) l, is, above))
   ]
-
--- where all variables are below v, it has no atom
-pub beyond : (xs : List Flat) (v n : ℕ) (b : Flat) → ((i : ℕ) (atom : Flat) → StandsAt xs i atom → i < n → variable_of atom < v)
-    → n ≡ length xs → Contains xs b → ¬ (variable_of b ≡ v)
-beyond xs v n b below e (k, w, at) = λ is. omega (arith, below k b (w, at) (omega (arith, w, e)), is)
 
 module _ (xs : List Flat) (up : Ascends xs) (v m : ℕ) (a : Flat) (at : slice_get xs m ≡ Some a) where
   pub before_more : variable_of a < v → (i : ℕ) (b : Flat) → StandsAt xs i b → i < m + 1 → variable_of b < v

@@ -168,9 +168,9 @@ fn spreads_are_those_of_all_walks(rt: HostRuntime) -> Result<(), Fail> {
     Ok(())
 }
 
-// The first are worked by hand: from a variable that equals another, beyond all atoms, a finite atom, a loop behind the
-// second argument alone, shared terms with and without a loop behind them. The others are solved conjunctions made at
-// random, with what a slow program finds that tries every walk.
+// The first show one thing each: a start that equals another variable, one beyond all atoms, a finite atom, a loop behind
+// the second argument alone, shared terms with and without a loop behind them. The others are solved conjunctions made at
+// random. Expected is what a slow program finds that tries every walk.
 const COUNT: usize = 119;
 
 const CONJUNCTIONS: [&str; 119] = [
