@@ -14,7 +14,7 @@ use Rattle.flat_form.specs.declared.cube.Cube.{Cube}
 use Rattle.flat_form.specs.declared.normal.Normal.{Normal}
 use Rattle.flat_form.specs.declared.normal.Normal.TheViews.{out-Normal}
 use Rattle.flat_form.specs.Normals.{Norm, Norms, norm, none, also, join, norm_of, norms_of}
-use Rattle.flat_form.proofs.Ties.{norm_by_fields, join_join}
+use Rattle.flattening.proofs.Norms.{norm_by_fields, join_join}
 use Rattle.flattening.specs.declared.solved.Key.{Key}
 use Rattle.flattening.specs.declared.solved.Key.TheVariants.{Call, Win}
 use Rattle.flattening.specs.Plain.{PlainTerm, Plain, term_of, terms_of, no_terms, one_more, plain_of, always, equal, finite, ask, no, and, exists, imply}

@@ -5,6 +5,7 @@ pub mod EachCube
 pub mod Filled
 pub mod Given
 pub mod Meaning
+pub mod Norms
 pub mod Readings
 pub mod Steps
 pub mod Table

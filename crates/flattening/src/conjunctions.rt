@@ -21,7 +21,7 @@ use std::alloc::Global;
 use tree_model::{NoMemory, Places};
 
 // A negated conjunction of these parts alone.
-#[tactic(auto, using(flat_form::proofs::Ties::norm_rules))]
+#[tactic(auto, using(crate::proofs::Norms::norm_rules))]
 fn none_of(alloc: Global, parts: Normals) -> Normal
     ensures { norm_of result ≡ norm 0 [] (norms_of parts) }
 {
@@ -33,7 +33,7 @@ fn none_of(alloc: Global, parts: Normals) -> Normal
 }
 
 // The part alone.
-#[tactic(auto, using(flat_form::proofs::Ties::norm_rules))]
+#[tactic(auto, using(crate::proofs::Norms::norm_rules))]
 fn only(alloc: Global, part: Normal) -> Result<Normals, NoMemory>
     ensures { IfOk result (λ made. norms_of made ≡ also (norm_of part) none) }
 {
@@ -43,7 +43,7 @@ fn only(alloc: Global, part: Normal) -> Result<Normals, NoMemory>
 }
 
 // Not all of the parts hold.
-#[tactic(auto, using(flat_form::proofs::Ties::norm_rules))]
+#[tactic(auto, using(crate::proofs::Norms::norm_rules))]
 fn some_fails(alloc: Global, first: Normal, second: Normal) -> Result<Normal, NoMemory>
     ensures { IfOk result (λ made. norm_of made ≡ norm 0 [] (also (norm_of first) (also (norm_of second) none))) }
 {
@@ -111,7 +111,7 @@ fn asked(
 // Adds the parts of the formula's conjunction, over `scope` variables, and answers the number behind its bound
 // variables.
 #[cycle(parts)]
-#[tactic(auto, using(crate::proofs::ByForm::form_rules, flat_form::proofs::Ties::norm_rules))]
+#[tactic(auto, using(crate::proofs::ByForm::form_rules, crate::proofs::Norms::norm_rules))]
 fn add_parts(
     alloc: Global,
     formula: &Formula,
@@ -198,7 +198,7 @@ fn add_parts(
 
 // The formula's conjunction, negated, over `scope` variables.
 #[cycle(parts)]
-#[tactic(auto, using(crate::proofs::ByForm::form_rules, flat_form::proofs::Ties::norm_rules))]
+#[tactic(auto, using(crate::proofs::ByForm::form_rules, crate::proofs::Norms::norm_rules))]
 fn negated(
     alloc: Global,
     formula: &Formula,
@@ -222,7 +222,7 @@ fn negated(
 
 // The premise, a negated conjunction, with the formula as one more part, negated too: it follows from the premise.
 #[cycle(parts)]
-#[tactic(auto, using(crate::proofs::ByForm::form_rules, flat_form::proofs::Ties::norm_rules))]
+#[tactic(auto, using(crate::proofs::ByForm::form_rules, crate::proofs::Norms::norm_rules))]
 fn implied(
     alloc: Global,
     formula: &Formula,

@@ -1,5 +1,5 @@
 use Rattle.std.proofs.Common.{◌≡◌, ap, ◌∙◌, refl}
-use Rattle.flat_form.proofs.Ties.{pushed, norm_rolled}
+use Rattle.flattening.proofs.Norms.{pushed, norm_rolled}
 use Rattle.flattening.specs.Plain.{exists, no, and, imply}
 use Rattle.flattening.specs.Tables.{cubes_at}
 use Rattle.flattening.proofs.ByForm.{plain, plain_imp, plain_iff, plain_exists, plain_forall, imply_added, iff_added, exists_added, forall_added, implied_made, imply_step, same_numbers, turned}
