@@ -14,7 +14,7 @@ use Rattle.flat_form.specs.declared.cube.Cube.{Cube}
 use Rattle.flat_form.specs.Meanings.{AtomHolds, BasicHolds, AllFail, NormHolds, NormsHold, Extends, SomeHolds, CubeHolds}
 use Rattle.flattening.specs.Flattening.{renamed, placed, denied_parts, denied, all_denied}
 
-length_map : (f : ℕ → ℕ) (xs : List ℕ) → length (map f xs) ≡ length xs
+pub length_map : (f : ℕ → ℕ) (xs : List ℕ) → length (map f xs) ≡ length xs
 length_map f [] = refl
 length_map f (x ∷ xs) = ap suc (length_map f xs)
 
@@ -73,7 +73,7 @@ AllFree n [] = Unit {0}
 AllFree n (cube ∷ rest) = (cube.free ≡ n) × AllFree n rest
 
 module _ (args : List ℕ) (scope : ℕ) (args_below : (v : ℕ) → v < length args → slice_index args v < scope) where
-  placed_within : (outer v : ℕ) → v < length args + outer → placed args scope v < scope + outer
+  pub placed_within : (outer v : ℕ) → v < length args + outer → placed args scope v < scope + outer
   placed_within outer v w = elim (within_or_past v (length args)) [
     | inl k ↦ omega (arith, placed_below args scope v k, args_below v k)
     | inr k ↦ omega (arith, placed_above args scope v k)

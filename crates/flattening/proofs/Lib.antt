@@ -6,6 +6,7 @@ pub mod Filled
 pub mod Given
 pub mod Meaning
 pub mod Norms
+pub mod Numbered
 pub mod Readings
 pub mod Steps
 pub mod Table

@@ -2,9 +2,10 @@ ghost use Rattle.std.specs.Prelude.{◌≡◌, ℕ, ◌+◌, ◌++◌, [], ◌�
 ghost use Rattle.formula_ast.specs.Forms.{form_of};
 ghost use Rattle.formula_ast.specs.Terms.{list_of};
 ghost use Rattle.flat_form.specs.Normals.{Norm, Norms, norm_of, norms_of, join, norm, also, none};
+ghost use Rattle.flat_form.specs.Numbering.{NormOver};
 ghost use Rattle.flattening.specs.Plain.{Plain, term_of, plain_of};
 ghost use Rattle.flattening.specs.Numbers.{number_by};
-ghost use Rattle.flattening.specs.Conditions.{HasFreeVariables, HasEntries, MeansFormula};
+ghost use Rattle.flattening.specs.Conditions.{HasFreeVariables, HasEntries, IsNarrow, MeansFormula};
 ghost use Rattle.flattening.specs.Tables.{cubes_at};
 ghost use Rattle.flattening.specs.Flattening.{equality, equality_bound, bound_of, parts_of, negation, implication, flattening_of, all_denied, with_more};
 
@@ -254,6 +255,8 @@ pub fn flatten(
     ensures normal { IfOk result (λ made. norm_of made ≡ flattening_of ranks.now table.now (form_of f.now)) }
     ensures meaning { IfOk result (λ made. HasFreeVariables ranks.now (form_of f.now) → HasEntries table.now (plain_of (form_of f.now))
         → MeansFormula ranks.now table.now (form_of f.now) (norm_of made)) }
+    ensures well_numbered { IfOk result (λ made. HasFreeVariables ranks.now (form_of f.now) → IsNarrow (plain_of (form_of f.now))
+        → HasEntries table.now (plain_of (form_of f.now)) → NormOver (length ranks.now) (norm_of made)) }
 {
     let mut given = Numbers::of_ranks(alloc, ranks)?;
     let part = negated(alloc, f, &mut given, table, ranks.len())?;
