@@ -2,7 +2,6 @@
 use Rattle.std.proofs.Common.{ℕ, ◌≡◌, ◌+◌, ◌<◌, ◌≤◌, List, [], ◌∷◌, length, map, refl, sym, subst, arith, inl, inr, ◌⊎◌, add-zero}
 use Rattle.std.specs.Prelude.{All, slice_index}
 use Rattle.std.proofs.lemmas.List.Elements.{All-nil, All-cons, All-head, All-tail, All-append, All-map, All-weaker}
-use Rattle.tree_model.specs.declared.tree.Symbol.{Symbol}
 use Rattle.tree_model.specs.Valuations.{update}
 use Rattle.formula_ast.specs.Forms.{Form}
 use Rattle.flat_form.specs.declared.atom.Flat.{Flat}
@@ -15,7 +14,7 @@ use Rattle.flattening.specs.declared.solved.Key.{Key}
 use Rattle.flattening.specs.Plain.{PlainTerm, PlainTerms, variable, apply, no_terms, one_more, Plain, always, equal, finite, ask, no, and, exists, plain_of}
 use Rattle.flattening.specs.Numbers.{rank_in}
 use Rattle.flattening.specs.Tables.{cubes_at}
-use Rattle.flattening.specs.Conditions.{count, HasFreeVariables, HasEntries, TermIsNarrow, TermsAreNarrow, IsNarrow}
+use Rattle.flattening.specs.Conditions.{HasFreeVariables, HasEntries, TermIsNarrow, TermsAreNarrow, IsNarrow}
 use Rattle.flattening.specs.Flattening.{alone, inside, wide, wides, applied, number, arguments, equations, deeper, equation, equality, equality_bound, whole, numbers, wholes, renamed, placed, denied_parts, denied, all_denied, bound_of, atoms_of, parts_of, flattened}
 use Rattle.flattening.proofs.Values.{In, InSome, length_arguments}
 use Rattle.flattening.proofs.Filled.{deep, deep_wides, number_below}

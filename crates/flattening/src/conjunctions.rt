@@ -53,6 +53,21 @@ fn some_fails(alloc: Global, first: Normal, second: Normal) -> Result<Normal, No
     Ok(none_of(alloc, parts))
 }
 
+// Adds that not all of the parts hold.
+#[tactic(auto, using(crate::proofs::Norms::norm_rules))]
+fn add_some_fails(
+    alloc: Global,
+    first: Normal,
+    second: Normal,
+    parts: &mut Normals,
+) -> Result<(), NoMemory>
+    ensures { OnOk result (norms_of parts.new
+        ≡ join (norms_of parts.old) (also (norm 0 [] (also (norm_of first) (also (norm_of second) none))) none)) }
+{
+    parts.push(some_fails(alloc, first, second)?)?;
+    Ok(())
+}
+
 // The negated conjunction with one more part.
 fn with_part(normal: Normal, part: Normal) -> Result<Normal, NoMemory>
     ensures { IfOk result (λ made. norm_of made ≡ with_more (also (norm_of part) none) (norm_of normal)) }
@@ -112,7 +127,6 @@ fn asked(
 // Adds the parts of the formula's conjunction, over `scope` variables, and answers the number behind its bound
 // variables.
 #[cycle(parts)]
-#[tactic(auto, using(crate::proofs::ByForm::form_rules, crate::proofs::Norms::norm_rules))]
 fn add_parts(
     alloc: Global,
     formula: &Formula,
@@ -162,7 +176,7 @@ fn add_parts(
         Formula::Or(left, right) => {
             let first = negated(alloc, left.get(), given, table, scope)?;
             let other = negated(alloc, right.get(), given, table, scope)?;
-            parts.push(some_fails(alloc, first, other)?)?;
+            add_some_fails(alloc, first, other, parts)?;
             Ok(next)
         }
         Formula::Imp(left, right) => {
@@ -199,7 +213,6 @@ fn add_parts(
 
 // The formula's conjunction, negated, over `scope` variables.
 #[cycle(parts)]
-#[tactic(auto, using(crate::proofs::ByForm::form_rules, crate::proofs::Norms::norm_rules))]
 fn negated(
     alloc: Global,
     formula: &Formula,
@@ -223,7 +236,6 @@ fn negated(
 
 // The premise, a negated conjunction, with the formula as one more part, negated too: it follows from the premise.
 #[cycle(parts)]
-#[tactic(auto, using(crate::proofs::ByForm::form_rules, crate::proofs::Norms::norm_rules))]
 fn implied(
     alloc: Global,
     formula: &Formula,
