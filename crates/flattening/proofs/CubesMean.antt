@@ -61,7 +61,7 @@ module _ {σ : Signature} where
   basic_from_renamed f [] e holds = tt
   basic_from_renamed f (atom ∷ rest) e holds = (from_renamed f atom e holds.0, basic_from_renamed f rest e holds.1)
 
-placed_below : (args : List ℕ) (scope v : ℕ) → v < length args → placed args scope v ≡ slice_index args v
+pub placed_below : (args : List ℕ) (scope v : ℕ) → v < length args → placed args scope v ≡ slice_index args v
 placed_below args scope v w = rw (lt-ltb v (length args) w) refl
 
 placed_above : (args : List ℕ) (scope v : ℕ) → length args ≤ v → placed args scope v ≡ scope + (v - length args)
