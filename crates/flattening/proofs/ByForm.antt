@@ -1,5 +1,6 @@
 -- The conjunction of a formula, form by form.
 use Rattle.std.proofs.Common.{ℕ, ◌≡◌, ◌+◌, ◌-◌, List, [], ◌∷◌, ◌++◌, length, append_assoc, append-nil, add-zero, refl, ap, sym, subst, ◌∙◌, arith}
+use Rattle.std.specs.Prelude.{Result, Ok, Err, IfOk, OnOk}
 use Rattle.tree_model.specs.Valuations.{update}
 use Rattle.formula_ast.specs.declared.formula.Formula.{Formula}
 use Rattle.formula_ast.specs.declared.formula.Formula.TheVariants as rust
@@ -14,12 +15,12 @@ use Rattle.flat_form.specs.declared.cube.Cube.{Cube}
 use Rattle.flat_form.specs.declared.normal.Normal.{Normal}
 use Rattle.flat_form.specs.declared.normal.Normal.TheViews.{out-Normal}
 use Rattle.flat_form.specs.Normals.{Norm, Norms, norm, none, also, join, norm_of, norms_of}
-use Rattle.flat_form.proofs.Ties.{norm_by_fields, join_join}
+use Rattle.flattening.proofs.Norms.{norm_by_fields, join_join, join_none}
 use Rattle.flattening.specs.declared.solved.Key.{Key}
 use Rattle.flattening.specs.declared.solved.Key.TheVariants.{Call, Win}
 use Rattle.flattening.specs.Plain.{PlainTerm, Plain, term_of, terms_of, no_terms, one_more, plain_of, always, equal, finite, ask, no, and, exists, imply}
 use Rattle.flattening.specs.Numbers.{number_by, given_ranks, rank_in}
-use Rattle.flattening.specs.Flattening.{number, whole, bound_of, atoms_of, parts_of, negation, implication, with_more, flattened}
+use Rattle.flattening.specs.Flattening.{number, whole, all_denied, bound_of, atoms_of, parts_of, negation, implication, with_more, flattened}
 use Rattle.flattening.proofs.Given.{number_more}
 
 abbrev pub plain : Formula → Plain
@@ -72,9 +73,32 @@ no_more_atoms xs = append-nil xs
 
 pub ruleset form_rules = (plain_true, plain_false, plain_equal, plain_differ, plain_finite, plain_call, plain_win, plain_no, plain_and, plain_or, plain_imp, plain_iff, plain_exists, plain_forall, no_more_atoms)
 
+-- the number behind the bound variables
+pub none_bound : (n : ℕ) (f : Plain) → bound_of f ≡ 0 → n ≡ n + bound_of f
+none_bound n f e = omega (arith, e)
+
+pub bound_same : {E : Type 0} (r : Result ℕ E) (n bound : ℕ) (f : Plain) → bound_of f ≡ bound → IfOk r (λ after. after ≡ n + bound) → IfOk r (λ after. after ≡ n + bound_of f)
+bound_same (Ok after) n bound f e a = omega (arith, e, a)
+bound_same (Err error) n bound f e a = tt
+
+pub and_bound : (n middle after : ℕ) (f g h : Plain) → h ≡ and f g → middle ≡ n + bound_of f → after ≡ middle + bound_of g → after ≡ n + bound_of h
+and_bound n middle after f g h e a b = omega (arith, ap bound_of e, a, b)
+
+pub exists_bound : (n next after x : ℕ) (f h : Plain) → h ≡ exists x f → next ≡ n + 1 → after ≡ next + bound_of f → after ≡ n + bound_of h
+exists_bound n next after x f h e a b = omega (arith, ap bound_of e, a, b)
+
+-- the only number
+pub one_number : (before args : List ℕ) (k n : ℕ) → before ≡ [] → args ≡ before ++ k ∷ [] → k ≡ n → args ≡ n ∷ []
+one_number before args k n e p a = rw (p, e, a) refl
+
 -- no atoms are added
 pub no_atoms : (m : ℕ → ℕ) (n : ℕ) (basic : List Flat) (f g : Plain) → f ≡ g → atoms_of m n g ≡ [] → basic ≡ basic ++ atoms_of m n f
 no_atoms m n basic f g e none_there = sym (append-nil basic) ∙ ap (λ xs. basic ++ xs) (sym (ap (atoms_of m n) e ∙ none_there))
+
+pub same_atoms : {T E : Type 0} (r : Result T E) (m : ℕ → ℕ) (n : ℕ) (basic new xs : List Flat) (f : Plain) → atoms_of m n f ≡ xs → OnOk r (new ≡ basic ++ xs)
+    → OnOk r (new ≡ basic ++ atoms_of m n f)
+same_atoms (Ok value) m n basic new xs f e p = p ∙ ap (λ ys. basic ++ ys) (sym e)
+same_atoms (Err error) m n basic new xs f e p = tt
 
 pub and_atoms : (m : ℕ → ℕ) (n after : ℕ) (f g h : Plain) (basic first new : List Flat) → h ≡ and f g → after ≡ n + bound_of f → first ≡ basic ++ atoms_of m n f
     → new ≡ first ++ atoms_of m after g → new ≡ basic ++ atoms_of m n h
@@ -115,6 +139,58 @@ pub bound_read : (x : Normal) (bound : ℕ) (basic : List Flat) (parts : Norms) 
 bound_read x bound basic parts e = ap bound_in (sym (norm_by_fields x) ∙ e)
 
 module _ (entries : Key → List Cube) where
+  -- no parts are added
+  pub no_parts : (m : ℕ → ℕ) (n scope : ℕ) (parts : Norms) (f g : Plain) → f ≡ g → parts_of entries m n scope g ≡ none → parts ≡ join parts (parts_of entries m n scope f)
+  no_parts m n scope parts f g e none_there = sym (join_none parts) ∙ ap (join parts) (sym (ap (parts_of entries m n scope) e ∙ none_there))
+
+  -- the same where a last call says whether it went well
+  pub still_no_parts : {T E : Type 0} (r : Result T E) (m : ℕ → ℕ) (n scope : ℕ) (parts : Norms) (f g : Plain) → f ≡ g → parts_of entries m n scope g ≡ none
+      → OnOk r (parts ≡ join parts (parts_of entries m n scope f))
+  still_no_parts (Ok value) m n scope parts f g e none_there = no_parts m n scope parts f g e none_there
+  still_no_parts (Err error) m n scope parts f g e none_there = tt
+
+  -- one part is added
+  pub one_part : (m : ℕ → ℕ) (n scope : ℕ) (f g : Plain) (item part : Norm) (parts new : Norms) → f ≡ g → parts_of entries m n scope g ≡ also part none → item ≡ part
+      → new ≡ join parts (also item none) → new ≡ join parts (parts_of entries m n scope f)
+  one_part m n scope f g item part parts new e is a p = p ∙ ap (join parts) (ap (λ x. also x none) a ∙ sym (ap (parts_of entries m n scope) e ∙ is))
+
+  pub still_one_part : {T E : Type 0} (r : Result T E) (m : ℕ → ℕ) (n scope : ℕ) (f g : Plain) (item part : Norm) (parts new : Norms) → f ≡ g
+      → parts_of entries m n scope g ≡ also part none → item ≡ part → new ≡ join parts (also item none) → OnOk r (new ≡ join parts (parts_of entries m n scope f))
+  still_one_part (Ok value) m n scope f g item part parts new e is a p = one_part m n scope f g item part parts new e is a p
+  still_one_part (Err error) m n scope f g item part parts new e is a p = tt
+
+  -- all parts of a formula's conjunction
+  pub parts_built : (given more : List (ℕ × ℕ)) (n scope after : ℕ) (f : Plain) (parts new : Norms) → after ≡ scope + bound_of f → parts ≡ none → more ≡ given
+      → new ≡ join parts (parts_of entries (number_by more) n after f) → new ≡ parts_of entries (number_by given) n (scope + bound_of f) f
+  parts_built given more n scope after f parts new a e k p =
+      p ∙ ap (λ ps. join ps (parts_of entries (number_by more) n after f)) e ∙ ap (λ (x : List (ℕ × ℕ)). parts_of entries (number_by x) n after f) k
+      ∙ ap (λ x. parts_of entries (number_by given) n x f) a
+
+  -- the part that asks an entry
+  pub asked_at : (args others : List ℕ) (scope : ℕ) (key : Key) (item : Norm) → args ≡ others → item ≡ norm 0 [] (all_denied args scope (entries key))
+      → item ≡ norm 0 [] (all_denied others scope (entries key))
+  asked_at args others scope key item e a = a ∙ ap (λ xs. norm 0 [] (all_denied xs scope (entries key))) e
+
+  pub and_added : (given more : List (ℕ × ℕ)) (n after scope : ℕ) (f g h : Plain) (parts middle new : Norms) → h ≡ and f g → after ≡ n + bound_of f → more ≡ given
+      → middle ≡ join parts (parts_of entries (number_by given) n scope f) → new ≡ join middle (parts_of entries (number_by more) after scope g)
+      → new ≡ join parts (parts_of entries (number_by given) n scope h)
+  and_added given more n after scope f g h parts middle new e a k p q =
+      let last : new ≡ join middle (parts_of entries (number_by given) (n + bound_of f) scope g) =
+      q ∙ ap (λ (x : List (ℕ × ℕ)). join middle (parts_of entries (number_by x) after scope g)) k
+      ∙ ap (λ x. join middle (parts_of entries (number_by given) x scope g)) a in
+      rw (e, last, p, join_join) refl
+
+  or_parts : (m : ℕ → ℕ) (n scope : ℕ) (f g : Plain)
+      → parts_of entries m n scope (no (and (no f) (no g))) ≡ also (norm 0 [] (also (negation entries m scope f) (also (negation entries m scope g) none))) none
+  or_parts m n scope f g = ap (λ k. also (norm 0 [] (also (negation entries m k f) (also (negation entries m k g) none))) none) (add-zero scope)
+
+  pub or_added : (given more : List (ℕ × ℕ)) (n scope : ℕ) (f g h : Plain) (first other : Norm) (parts new : Norms) → h ≡ no (and (no f) (no g))
+      → first ≡ negation entries (number_by given) scope f → more ≡ given → other ≡ negation entries (number_by more) scope g
+      → new ≡ join parts (also (norm 0 [] (also first (also other none))) none) → new ≡ join parts (parts_of entries (number_by given) n scope h)
+  or_added given more n scope f g h first other parts new e a k b p =
+      let other_is : other ≡ negation entries (number_by given) scope g = b ∙ ap (λ (x : List (ℕ × ℕ)). negation entries (number_by x) scope g) k in
+      rw (e, or_parts (number_by given) n scope f g, p, a, other_is) refl
+
   imply_parts : (m : ℕ → ℕ) (n scope : ℕ) (f g : Plain) → parts_of entries m n scope (imply f g) ≡ also (implication entries m scope f g) none
   imply_parts m n scope f g = rw (add-zero, append-nil) refl
 

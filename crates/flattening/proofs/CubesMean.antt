@@ -14,7 +14,7 @@ use Rattle.flat_form.specs.declared.cube.Cube.{Cube}
 use Rattle.flat_form.specs.Meanings.{AtomHolds, BasicHolds, AllFail, NormHolds, NormsHold, Extends, SomeHolds, CubeHolds}
 use Rattle.flattening.specs.Flattening.{renamed, placed, denied_parts, denied, all_denied}
 
-length_map : (f : ℕ → ℕ) (xs : List ℕ) → length (map f xs) ≡ length xs
+pub length_map : (f : ℕ → ℕ) (xs : List ℕ) → length (map f xs) ≡ length xs
 length_map f [] = refl
 length_map f (x ∷ xs) = ap suc (length_map f xs)
 
@@ -61,7 +61,7 @@ module _ {σ : Signature} where
   basic_from_renamed f [] e holds = tt
   basic_from_renamed f (atom ∷ rest) e holds = (from_renamed f atom e holds.0, basic_from_renamed f rest e holds.1)
 
-placed_below : (args : List ℕ) (scope v : ℕ) → v < length args → placed args scope v ≡ slice_index args v
+pub placed_below : (args : List ℕ) (scope v : ℕ) → v < length args → placed args scope v ≡ slice_index args v
 placed_below args scope v w = rw (lt-ltb v (length args) w) refl
 
 placed_above : (args : List ℕ) (scope v : ℕ) → length args ≤ v → placed args scope v ≡ scope + (v - length args)
@@ -73,7 +73,7 @@ AllFree n [] = Unit {0}
 AllFree n (cube ∷ rest) = (cube.free ≡ n) × AllFree n rest
 
 module _ (args : List ℕ) (scope : ℕ) (args_below : (v : ℕ) → v < length args → slice_index args v < scope) where
-  placed_within : (outer v : ℕ) → v < length args + outer → placed args scope v < scope + outer
+  pub placed_within : (outer v : ℕ) → v < length args + outer → placed args scope v < scope + outer
   placed_within outer v w = elim (within_or_past v (length args)) [
     | inl k ↦ omega (arith, placed_below args scope v k, args_below v k)
     | inr k ↦ omega (arith, placed_above args scope v k)

@@ -9,7 +9,7 @@ use Rattle.flat_form.specs.declared.atom.Flat.{Flat}
 use Rattle.flat_form.specs.declared.cube.Part.{Part}
 use Rattle.flat_form.specs.declared.cube.Cube.{Cube}
 use Rattle.flat_form.specs.Normals.{Norm, Norms, norm, none, also, join}
-use Rattle.flat_form.proofs.Ties.{join_none, join_join}
+use Rattle.flattening.proofs.Norms.{join_none, join_join}
 use Rattle.flattening.specs.Flattening.{renamed, denied_parts, denied, all_denied}
 
 pub rest_at : {A : Type 0} (xs : List A) (i : ℕ) (x : A) → slice_get xs i ≡ Some x → drop i xs ≡ x ∷ drop (i + 1) xs

@@ -111,7 +111,7 @@ abbrev pub deep : PlainTerms → ℕ
 deep no_terms = 0
 deep (one_more t ts) = inside t + deep ts
 
-deep_wides : (ts : PlainTerms) → applied ts + deep ts ≡ wides ts
+pub deep_wides : (ts : PlainTerms) → applied ts + deep ts ≡ wides ts
 deep_wides no_terms = refl
 deep_wides (one_more t ts) = omega (arith, deep_wides ts)
 

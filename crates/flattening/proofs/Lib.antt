@@ -5,6 +5,8 @@ pub mod EachCube
 pub mod Filled
 pub mod Given
 pub mod Meaning
+pub mod Norms
+pub mod Numbered
 pub mod Readings
 pub mod Steps
 pub mod Table

@@ -87,16 +87,16 @@ module _ (σ : Signature) (preds : List Pred) where
     (t, p) ← s
     n (t, coincide f (update e y t) (update d y t) (λ x i. elim (eqb_tells y x) [ inl k ↦ rw k.0 (λ p. refl) | inr k ↦ rw k.0 (h x ((λ q. k.1 (sym q)), i)) ]) p)
 
-length_numbers : (m : ℕ → ℕ) (n : ℕ) (ts : PlainTerms) → length (numbers m n ts) ≡ count ts
+pub length_numbers : (m : ℕ → ℕ) (n : ℕ) (ts : PlainTerms) → length (numbers m n ts) ≡ count ts
 length_numbers m n no_terms = refl
 length_numbers m n (one_more t ts) = omega (arith, length_numbers m (n + wide t) ts)
 
-numbers_below : (m : ℕ → ℕ) (n : ℕ) (ts : PlainTerms) → ((x : ℕ) → InSome x ts → m x < n) → (i : ℕ) → i < length (numbers m n ts) → slice_index (numbers m n ts) i < n + wides ts
+pub numbers_below : (m : ℕ → ℕ) (n : ℕ) (ts : PlainTerms) → ((x : ℕ) → InSome x ts → m x < n) → (i : ℕ) → i < length (numbers m n ts) → slice_index (numbers m n ts) i < n + wides ts
 numbers_below m n no_terms below i w = absurd (omega arith)
 numbers_below m n (one_more t ts) below zero w = omega (arith, number_below m n t (λ x j. below x (inl j)))
 numbers_below m n (one_more t ts) below (suc i) w = omega (arith, numbers_below m (n + wide t) ts (λ x j. omega (arith, below x (inr j))) i (omega arith))
 
-under : (m : ℕ → ℕ) (n x : ℕ) (f : Plain) → Below m n (exists x f) → Below (update m x n) (n + 1) f
+pub under : (m : ℕ → ℕ) (n x : ℕ) (f : Plain) → Below m n (exists x f) → Below (update m x n) (n + 1) f
 under m n x f below y i = elim (eqb_tells x y) [
   | inl h ↦ rw h.0 (omega arith)
   | inr h ↦ rw h.0 (omega (arith, below y ((λ q. h.1 (sym q)), i)))

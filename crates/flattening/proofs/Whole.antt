@@ -68,14 +68,20 @@ meant σ preds table (no f) has mean = meant σ preds table f has mean
 meant σ preds table (and f g) has mean = (meant σ preds table f has.0 mean.0, meant σ preds table g has.1 mean.1)
 meant σ preds table (exists x f) has mean = meant σ preds table f has mean
 
+-- each free variable has its place in the list as number
+at_rank : (ranks : List ℕ) (f : Form) → HasFreeVariables ranks f → (x : ℕ) → IsFree x (plain_of f) → Ranked (rank_in ranks) 0 ranks x
+at_rank ranks f free x k = ranked (λ v. 0) 0 ranks x (free x (free_in x f k))
+
+pub ranks_below : (ranks : List ℕ) (f : Form) → HasFreeVariables ranks f → Below (rank_in ranks) (length ranks) (plain_of f)
+ranks_below ranks f free x k = let r = at_rank ranks f free x k in omega (arith, r.within, r.number)
+
 pub means_formula : (ranks : List ℕ) (table : List (Key × List Cube)) (f : Form) (normal : Norm) → normal ≡ flattened (cubes_at table) (rank_in ranks) (length ranks) (plain_of f)
     → HasFreeVariables ranks f → HasEntries table (plain_of f) → MeansFormula ranks table f normal
 means_formula ranks table f normal is free has = record {
   exactly = λ σ preds d e fits mean gives.
-      let at_rank : (x : ℕ) → IsFree x (plain_of f) → Ranked (rank_in ranks) 0 ranks x = λ x k. ranked (λ v. 0) 0 ranks x (free x (free_in x f k)) in
-      let below : Below (rank_in ranks) (length ranks) (plain_of f) = λ x k. let r = at_rank x k in omega (arith, r.within, r.number) in
+      let below : Below (rank_in ranks) (length ranks) (plain_of f) = ranks_below ranks f free in
       let alike : (x : ℕ) → IsFree x (plain_of f) → Alike (d x) (e (rank_in ranks x)) = λ x k path.
-      let r = at_rank x k in
+      let r = at_rank ranks f free x k in
       ap (λ v. at (d v).graph path) (sym r.stands) ∙ gives r.place r.within path ∙ ap (λ v. at (e v).graph path) (sym (r.number ∙ omega arith)) in
       let all_meant = meant σ preds table (plain_of f) has mean in (
         (λ holds. from_plain σ preds f d (coincide σ preds (plain_of f) (λ x. e (rank_in ranks x)) d (λ x k path. sym (alike x k path))

@@ -1,5 +1,5 @@
 -- What a formula and a table must be like for the flattening to be well numbered and to mean the formula.
-use Rattle.std.specs.Prelude.{◌≡◌, ℕ, ◌+◌, ◌<◌, ◌↔◌, List, [], ◌∷◌, length, slice_index, Contains}
+use Rattle.std.specs.Prelude.{◌≡◌, ℕ, ◌+◌, ◌<◌, ◌≤◌, ◌↔◌, List, [], ◌∷◌, length, slice_index, Contains}
 use Rattle.tree_model.specs.Signatures.{Signature, TreeOver, IsRoot, Alike}
 use Rattle.tree_model.specs.Valuations.{Valuation}
 use Rattle.formula_ast.specs.declared.pred.Pred.{Pred}
@@ -48,6 +48,26 @@ module _ (σ : Signature) where
   FormulaFits (no f) = FormulaFits f
   FormulaFits (and f g) = FormulaFits f × FormulaFits g
   FormulaFits (exists x f) = FormulaFits f
+
+abbrev mutual
+  -- each symbol of the term has at most eight arguments
+  pub TermIsNarrow : PlainTerm → Type 0
+  TermIsNarrow (variable v) = Unit {0}
+  TermIsNarrow (apply symbol ts) = (count ts ≤ 8) × TermsAreNarrow ts
+
+  pub TermsAreNarrow : PlainTerms → Type 0
+  TermsAreNarrow no_terms = Unit {0}
+  TermsAreNarrow (one_more t ts) = TermIsNarrow t × TermsAreNarrow ts
+
+-- each symbol of the formula has
+abbrev pub IsNarrow : Plain → Type 0
+IsNarrow always = Unit {0}
+IsNarrow (equal t s) = TermIsNarrow t × TermIsNarrow s
+IsNarrow (finite t) = TermIsNarrow t
+IsNarrow (ask key ts) = TermsAreNarrow ts
+IsNarrow (no f) = IsNarrow f
+IsNarrow (and f g) = IsNarrow f × IsNarrow g
+IsNarrow (exists x f) = IsNarrow f
 
 -- the table has the key of every call and win of the formula, with cubes over as many free variables as there are
 -- arguments

@@ -12,7 +12,6 @@ use std::alloc::Global;
 use tree_model::NoMemory;
 
 // Adds the atoms of the formula's conjunction, and answers the number behind its bound variables.
-#[tactic(auto, using(crate::proofs::ByForm::form_rules))]
 pub(crate) fn add_atoms(
     alloc: Global,
     formula: &Formula,

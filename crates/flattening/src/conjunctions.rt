@@ -2,9 +2,10 @@ ghost use Rattle.std.specs.Prelude.{◌≡◌, ℕ, ◌+◌, ◌++◌, [], ◌�
 ghost use Rattle.formula_ast.specs.Forms.{form_of};
 ghost use Rattle.formula_ast.specs.Terms.{list_of};
 ghost use Rattle.flat_form.specs.Normals.{Norm, Norms, norm_of, norms_of, join, norm, also, none};
+ghost use Rattle.flat_form.specs.Numbering.{NormOver};
 ghost use Rattle.flattening.specs.Plain.{Plain, term_of, plain_of};
 ghost use Rattle.flattening.specs.Numbers.{number_by};
-ghost use Rattle.flattening.specs.Conditions.{HasFreeVariables, HasEntries, MeansFormula};
+ghost use Rattle.flattening.specs.Conditions.{HasFreeVariables, HasEntries, IsNarrow, MeansFormula};
 ghost use Rattle.flattening.specs.Tables.{cubes_at};
 ghost use Rattle.flattening.specs.Flattening.{equality, equality_bound, bound_of, parts_of, negation, implication, flattening_of, all_denied, with_more};
 
@@ -21,7 +22,7 @@ use std::alloc::Global;
 use tree_model::{NoMemory, Places};
 
 // A negated conjunction of these parts alone.
-#[tactic(auto, using(flat_form::proofs::Ties::norm_rules))]
+#[tactic(auto, using(crate::proofs::Norms::norm_rules))]
 fn none_of(alloc: Global, parts: Normals) -> Normal
     ensures { norm_of result ≡ norm 0 [] (norms_of parts) }
 {
@@ -33,7 +34,7 @@ fn none_of(alloc: Global, parts: Normals) -> Normal
 }
 
 // The part alone.
-#[tactic(auto, using(flat_form::proofs::Ties::norm_rules))]
+#[tactic(auto, using(crate::proofs::Norms::norm_rules))]
 fn only(alloc: Global, part: Normal) -> Result<Normals, NoMemory>
     ensures { IfOk result (λ made. norms_of made ≡ also (norm_of part) none) }
 {
@@ -43,13 +44,28 @@ fn only(alloc: Global, part: Normal) -> Result<Normals, NoMemory>
 }
 
 // Not all of the parts hold.
-#[tactic(auto, using(flat_form::proofs::Ties::norm_rules))]
+#[tactic(auto, using(crate::proofs::Norms::norm_rules))]
 fn some_fails(alloc: Global, first: Normal, second: Normal) -> Result<Normal, NoMemory>
     ensures { IfOk result (λ made. norm_of made ≡ norm 0 [] (also (norm_of first) (also (norm_of second) none))) }
 {
     let mut parts = only(alloc, first)?;
     parts.push(second)?;
     Ok(none_of(alloc, parts))
+}
+
+// Adds that not all of the parts hold.
+#[tactic(auto, using(crate::proofs::Norms::norm_rules))]
+fn add_some_fails(
+    alloc: Global,
+    first: Normal,
+    second: Normal,
+    parts: &mut Normals,
+) -> Result<(), NoMemory>
+    ensures { OnOk result (norms_of parts.new
+        ≡ join (norms_of parts.old) (also (norm 0 [] (also (norm_of first) (also (norm_of second) none))) none)) }
+{
+    parts.push(some_fails(alloc, first, second)?)?;
+    Ok(())
 }
 
 // The negated conjunction with one more part.
@@ -111,7 +127,6 @@ fn asked(
 // Adds the parts of the formula's conjunction, over `scope` variables, and answers the number behind its bound
 // variables.
 #[cycle(parts)]
-#[tactic(auto, using(crate::proofs::ByForm::form_rules, flat_form::proofs::Ties::norm_rules))]
 fn add_parts(
     alloc: Global,
     formula: &Formula,
@@ -161,7 +176,7 @@ fn add_parts(
         Formula::Or(left, right) => {
             let first = negated(alloc, left.get(), given, table, scope)?;
             let other = negated(alloc, right.get(), given, table, scope)?;
-            parts.push(some_fails(alloc, first, other)?)?;
+            add_some_fails(alloc, first, other, parts)?;
             Ok(next)
         }
         Formula::Imp(left, right) => {
@@ -198,7 +213,6 @@ fn add_parts(
 
 // The formula's conjunction, negated, over `scope` variables.
 #[cycle(parts)]
-#[tactic(auto, using(crate::proofs::ByForm::form_rules, flat_form::proofs::Ties::norm_rules))]
 fn negated(
     alloc: Global,
     formula: &Formula,
@@ -222,7 +236,6 @@ fn negated(
 
 // The premise, a negated conjunction, with the formula as one more part, negated too: it follows from the premise.
 #[cycle(parts)]
-#[tactic(auto, using(crate::proofs::ByForm::form_rules, flat_form::proofs::Ties::norm_rules))]
 fn implied(
     alloc: Global,
     formula: &Formula,
@@ -254,6 +267,8 @@ pub fn flatten(
     ensures normal { IfOk result (λ made. norm_of made ≡ flattening_of ranks.now table.now (form_of f.now)) }
     ensures meaning { IfOk result (λ made. HasFreeVariables ranks.now (form_of f.now) → HasEntries table.now (plain_of (form_of f.now))
         → MeansFormula ranks.now table.now (form_of f.now) (norm_of made)) }
+    ensures well_numbered { IfOk result (λ made. HasFreeVariables ranks.now (form_of f.now) → IsNarrow (plain_of (form_of f.now))
+        → HasEntries table.now (plain_of (form_of f.now)) → NormOver (length ranks.now) (norm_of made)) }
 {
     let mut given = Numbers::of_ranks(alloc, ranks)?;
     let part = negated(alloc, f, &mut given, table, ranks.len())?;

@@ -62,7 +62,7 @@ fn place_basic(alloc: Global, basic: &Basic, args: &Places, scope: usize) -> Res
 }
 
 // Each part of a cube as a negated conjunction.
-#[tactic(auto, using(flat_form::proofs::Ties::norm_rules))]
+#[tactic(auto, using(crate::proofs::Norms::norm_rules))]
 fn deny_parts(
     alloc: Global,
     parts: &Parts,
@@ -85,7 +85,7 @@ fn deny_parts(
 }
 
 // The cube does not hold at the arguments.
-#[tactic(auto, using(flat_form::proofs::Ties::norm_rules))]
+#[tactic(auto, using(crate::proofs::Norms::norm_rules))]
 fn deny(alloc: Global, cube: &Cube, args: &Places, scope: usize) -> Result<Normal, NoMemory>
     ensures { IfOk result (λ made. norm_of made ≡ denied args.now scope cube.now) }
 {
@@ -99,7 +99,7 @@ fn deny(alloc: Global, cube: &Cube, args: &Places, scope: usize) -> Result<Norma
 }
 
 // None of the cubes holds at the arguments.
-#[tactic(auto, using(flat_form::proofs::Ties::norm_rules))]
+#[tactic(auto, using(crate::proofs::Norms::norm_rules))]
 pub(crate) fn deny_all(
     alloc: Global,
     cubes: &Cubes,

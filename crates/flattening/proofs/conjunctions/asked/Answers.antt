@@ -2,7 +2,7 @@ use Rattle.std.proofs.Common.{◌≡◌, [], ap, ◌∙◌}
 use Rattle.std.specs.Prelude.{Option, None, List}
 use Rattle.flat_form.specs.declared.cube.Cube.{Cube}
 use Rattle.flat_form.specs.Normals.{norm}
-use Rattle.flat_form.proofs.Ties.{none_made}
+use Rattle.flattening.proofs.Norms.{none_made}
 use Rattle.flattening.specs.Tables.{entry_at, cubes_of}
 use Rattle.flattening.specs.Flattening.{all_denied}
 use Rattle.flattening.proofs.conjunctions.asked.Goals as goal

@@ -1,5 +1,5 @@
 use Rattle.std.proofs.Common.{◌∙◌}
-use Rattle.flat_form.proofs.Ties.{norm_rolled, none_made}
+use Rattle.flattening.proofs.Norms.{norm_rolled, none_made}
 use Rattle.flattening.proofs.ByForm.{normal_built}
 use Rattle.flattening.proofs.conjunctions.differ.Goals as goal
 

@@ -1,6 +1,6 @@
 use Rattle.std.proofs.Common.{ap, ◌∙◌}
 use Rattle.flat_form.specs.Normals.{join, also, none, norm_of}
-use Rattle.flat_form.proofs.Ties.{pushed, none_made}
+use Rattle.flattening.proofs.Norms.{pushed, none_made}
 use Rattle.flattening.proofs.conjunctions.only.Goals as goal
 
 pub returns : goal.returns

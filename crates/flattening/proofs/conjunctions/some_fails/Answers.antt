@@ -1,6 +1,6 @@
 use Rattle.std.proofs.Common.{[], ap, ◌∙◌}
 use Rattle.flat_form.specs.Normals.{join, norm, also, none, norm_of}
-use Rattle.flat_form.proofs.Ties.{pushed}
+use Rattle.flattening.proofs.Norms.{pushed}
 use Rattle.flattening.proofs.conjunctions.some_fails.Goals as goal
 
 pub returns : goal.returns

@@ -1,5 +1,5 @@
 use Rattle.std.proofs.Common.{◌∙◌}
-use Rattle.flat_form.proofs.Ties.{pushed, norm_rolled}
+use Rattle.flattening.proofs.Norms.{pushed, norm_rolled}
 use Rattle.flattening.proofs.ByForm.{more_by_fields}
 use Rattle.flattening.proofs.conjunctions.with_part.Goals as goal
 

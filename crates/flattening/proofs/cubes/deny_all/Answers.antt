@@ -1,4 +1,4 @@
-use Rattle.flat_form.proofs.Ties.{pushed}
+use Rattle.flattening.proofs.Norms.{pushed}
 use Rattle.flattening.proofs.EachCube.{denied_more, cubes_done}
 use Rattle.flattening.proofs.cubes.deny_all.Goals as goal
 

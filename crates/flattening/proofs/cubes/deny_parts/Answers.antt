@@ -1,5 +1,5 @@
 use Rattle.std.proofs.Common.{◌∙◌}
-use Rattle.flat_form.proofs.Ties.{pushed, none_made, norm_rolled}
+use Rattle.flattening.proofs.Norms.{pushed, none_made, norm_rolled}
 use Rattle.flattening.proofs.EachCube.{denied_part_more, parts_done, made_alone}
 use Rattle.flattening.proofs.cubes.deny_parts.Goals as goal
 
