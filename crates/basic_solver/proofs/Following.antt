@@ -1,15 +1,13 @@
 -- Names that follow pairs of atoms.
-use Rattle.std.proofs.Common.{ℕ, ◌≡◌, ◌<◌, List, length, get_or, refl, sym, ◌∙◌, subst, Some}
-use Rattle.std.specs.Prelude.{slice_index, slice_get, All, Contains}
-use Rattle.std.proofs.lemmas.List.Elements.{All-contains}
+use Rattle.std.proofs.Common.{ℕ, ◌≡◌, ◌<◌, List, length, get_or, sym, ◌∙◌, subst, Some}
+use Rattle.std.specs.Prelude.{slice_index, slice_get, Contains}
 use Rattle.std.proofs.lemmas.Option.{slice_get_within, get_or_from_slice_get}
 use Rattle.tree_model.specs.declared.tree.Symbol.{Symbol}
 use Rattle.flat_form.specs.declared.atom.Flat.{Flat}
-use Rattle.flat_form.specs.declared.atom.Flat.TheVariants.{VarVar, VarTerm}
+use Rattle.flat_form.specs.declared.atom.Flat.TheVariants.{VarTerm}
 use Rattle.flat_form.specs.Classes.{Class, turned, joined, inward, outward}
 use Rattle.flat_form.specs.Numbering.{AtomOver}
-use Rattle.flat_facts.specs.Names.{IsClosed}
-use Rattle.basic_solver.specs.Names.{name_in, IsSound, AreAlike, IsFollowed, IsServed}
+use Rattle.basic_solver.specs.Names.{name_in, IsSound, AreAlike, IsFollowed}
 use Rattle.basic_solver.proofs.Naming.{read_name}
 
 pub stands_at : (xs : List Flat) (i : ℕ) (x : Flat) → slice_get xs i ≡ Some x → Contains xs x
@@ -48,20 +46,6 @@ pub follow_none : (names : List ℕ) (a b : Flat) (u v : ℕ) (s t : Symbol) (xs
 follow_none names a b u v s t xs ys ea eb apart unlike =
     subst (λ z. IsFollowed names z b) (sym ea) (subst (λ z. IsFollowed names (VarTerm u s xs) z) (sym eb)
     (λ es len. (λ e. absurd (apart e), λ alike. absurd (unlike alike))))
-
-module _ (names : List ℕ) (atoms : List Flat) (served : All (IsServed names atoms) atoms) where
-  serves : (a : Flat) → Contains atoms a → IsServed names atoms a
-  serves a i = All-contains (IsServed names atoms) atoms a served i
-
-  two : (a b : Flat) → Contains atoms a → Contains atoms b → IsFollowed names a b
-  two a b i j = All-contains (IsFollowed names a) atoms b (serves a i).1 j
-
-  pub closed_from : IsClosed atoms (name_in names)
-  closed_from = record {
-    equal = λ u v i. (serves (VarVar u v) i).0;
-    arguments = λ u v s xs ys i j len e. (two (VarTerm u s xs) (VarTerm v s ys) i j refl len).0 e;
-    terms = λ u v s xs ys i j len alike. (two (VarTerm u s xs) (VarTerm v s ys) i j refl len).1 alike;
-  }
 
 pub followed_same : (mid old : List ℕ) (a b : Flat) → mid ≡ old → IsFollowed mid a b → IsFollowed old a b
 followed_same mid old a b same f = subst (λ (z : List ℕ). IsFollowed z a b) same f

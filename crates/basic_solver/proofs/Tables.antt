@@ -44,7 +44,7 @@ pub line_of_bound : (base atoms : List Flat) (v : ℕ) → ¬ All (LeavesOpen v)
 line_of_bound base atoms v bound other e = λ new.
     bound (open_all base v (subst (λ (z : ℕ). IsOpen base z) e (bare_of base atoms other new)))
 
-same_list : (xs ys : List ℕ) → length xs ≡ length ys → ((i : ℕ) → i < length xs → slice_index xs i ≡ slice_index ys i) → xs ≡ ys
+pub same_list : (xs ys : List ℕ) → length xs ≡ length ys → ((i : ℕ) → i < length xs → slice_index xs i ≡ slice_index ys i) → xs ≡ ys
 same_list [] [] len each = refl
 same_list [] (y ∷ ys) len each = absurd (omega (arith, len))
 same_list (x ∷ xs) [] len each = absurd (omega (arith, len))

@@ -19,6 +19,10 @@ Agrees names (VarTerm u symbol xs) (VarTerm v other ys) = name_in names u ≡ na
 Agrees names (VarTerm u symbol xs) (Finite v) = Unit {0}
 Agrees names (Finite u) b = Unit {0}
 
+-- each two atoms agree
+abbrev pub AllAgree : List ℕ → List Flat → Type 0
+AllAgree names atoms = All (λ atom. All (Agrees names atom) atoms) atoms
+
 -- the names are those of the classes of the atoms, in which no two terms clash
 pub record AreClasses (names : List ℕ) (atoms : List Flat) : Type 0 where
   pub sound : IsSound atoms names

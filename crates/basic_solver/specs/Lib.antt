@@ -1,4 +1,9 @@
+pub mod Bases
 pub mod Flags
 pub mod Names
 pub mod Outcomes
+pub mod Rounds
 pub mod Stores
+pub mod Terms
+pub mod Twins
+pub mod Visits

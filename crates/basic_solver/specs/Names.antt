@@ -1,5 +1,5 @@
 -- Tables of names: one variable for each variable, the same for all of a class, and the one that comes first of these.
-use Rattle.std.specs.Prelude.{◌≡◌, ℕ, ◌+◌, ◌<◌, ◌≤◌, Bool, false, List, length, map, cond, eqb, slice_index, slice_index_or, sum_by, All}
+use Rattle.std.specs.Prelude.{◌≡◌, ℕ, ◌+◌, ◌<◌, ◌≤◌, Bool, false, List, length, map, cond, eqb, slice_index, slice_index_or, sum_by}
 use Rattle.flat_form.specs.declared.atom.Flat.{Flat}
 use Rattle.flat_form.specs.declared.atom.Flat.TheVariants.{VarVar, VarTerm, Finite}
 use Rattle.flat_form.specs.Classes.{Class}
@@ -49,7 +49,3 @@ IsFollowed names (VarTerm u symbol xs) (VarTerm v other ys) =
     → (name_in names u ≡ name_in names v → AreAlike names xs ys) × (AreAlike names xs ys → name_in names u ≡ name_in names v)
 IsFollowed names (VarTerm u symbol xs) (Finite v) = Unit {0}
 IsFollowed names (Finite u) b = Unit {0}
-
--- the names follow the atom and all others
-abbrev pub IsServed : List ℕ → List Flat → Flat → Type 0
-IsServed names atoms atom = IsEquated names atom × All (IsFollowed names atom) atoms

@@ -47,9 +47,9 @@ with_lead (VarTerm u symbol xs) leads = slice_set leads u true
 with_lead (Finite u) leads = leads
 
 -- the equation of v with the atom's term, where that is of the class that is named v
-abbrev pub IsTermAt : List ℕ → Flat → ℕ → Option Flat → Type 0
-IsTermAt names atom v None = GivesNoTerm names v atom
-IsTermAt names atom v (Some found) =
+abbrev pub IsTermFor : List ℕ → Flat → ℕ → Option Flat → Type 0
+IsTermFor names atom v None = GivesNoTerm names v atom
+IsTermFor names atom v (Some found) =
     (u : ℕ) × (symbol : Symbol) × (xs : List ℕ) × (atom ≡ VarTerm u symbol xs) × (name_in names u ≡ v) × (found ≡ VarTerm v symbol (map (name_in names) xs))
 
 -- that v is finite, where its flag is set and the base says so of no variable with this name

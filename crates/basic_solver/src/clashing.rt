@@ -1,8 +1,10 @@
 //! Whether two terms of one class clash.
 ghost use Rattle.std.specs.Prelude.{◌≡◌, ◌<◌, length, IsTrue, ◌↔◌, All};
 ghost use Rattle.flat_form.specs.Numbering.{AtomOver, BasicOver};
-ghost use Rattle.basic_solver.specs.Flags.{Agrees};
+ghost use Rattle.basic_solver.specs.Flags.{AreNames, Agrees, AllAgree};
+ghost use Rattle.basic_solver.specs.Terms.{HavePlaces, AreTerms, AgreesWithNoted};
 
+use crate::terms::term_of;
 use flat_form::{Basic, Flat};
 
 // Whether the two terms agree, where they are of one class.
@@ -20,27 +22,33 @@ fn agree(names: &[usize], a: &Flat, b: &Flat) -> bool
     names[*u] != names[*v] || *symbol == *other && xs.len() == ys.len()
 }
 
-// Whether the atom agrees with each.
-fn agrees_with_all(names: &[usize], atoms: &Basic, atom: &Flat) -> bool
-    requires one { AtomOver (length names.now) atom.now }
+// Whether the atom agrees with the term that is noted for its class.
+fn agrees_with_noted(names: &[usize], terms: &[Option<usize>], atoms: &Basic, atom: &Flat) -> bool
+    requires names { AreNames names.now }
+    requires size { length terms.now ≡ length names.now }
+    requires places { HavePlaces (length atoms.now) terms.now }
     requires over { BasicOver (length names.now) atoms.now }
-    ensures { IsTrue result ↔ All (Agrees names.now atom.now) atoms.now }
+    requires one { AtomOver (length names.now) atom.now }
+    ensures { IsTrue result ↔ AgreesWithNoted names.now terms.now atoms.now atom.now }
 {
-    for i in 0..atoms.len() {
-        if !agree(names, atom, atoms.get(i)) {
-            return false;
-        }
+    let Flat::VarTerm(u, _, _) = atom else {
+        return true;
+    };
+    match term_of(terms, atoms, names[*u]) {
+        Some(term) => agree(names, atom, term),
+        None => true,
     }
-    true
 }
 
 // Whether each two atoms agree.
-pub(crate) fn all_agree(names: &[usize], atoms: &Basic) -> bool
+pub(crate) fn all_agree(names: &[usize], terms: &[Option<usize>], atoms: &Basic) -> bool
+    requires names { AreNames names.now }
+    requires terms { AreTerms names.now atoms.now terms.now }
     requires over { BasicOver (length names.now) atoms.now }
-    ensures { IsTrue result ↔ All (λ atom. All (Agrees names.now atom) atoms.now) atoms.now }
+    ensures { IsTrue result ↔ AllAgree names.now atoms.now }
 {
     for i in 0..atoms.len() {
-        if !agrees_with_all(names, atoms, atoms.get(i)) {
+        if !agrees_with_noted(names, terms, atoms, atoms.get(i)) {
             return false;
         }
     }

@@ -1,12 +1,21 @@
-//! The classes of atoms: names that follow every atom.
-ghost use Rattle.std.specs.Prelude.{◌≡◌, ℕ, ◌<◌, List, length, MatchBool, All, Contains};
+//! The classes of atoms: names that follow every atom, so long as no two terms clash.
+ghost use Rattle.std.specs.Prelude.{◌≡◌, ℕ, ◌<◌, List, length, slice_index, IfOk, MatchBool, All, Contains};
 ghost use Rattle.flat_form.specs.declared.atom.Flat.{Flat};
 ghost use Rattle.flat_form.specs.Numbering.{AtomOver, BasicOver};
 ghost use Rattle.flat_facts.specs.Names.{IsClosed};
-ghost use Rattle.basic_solver.specs.Names.{name_in, IsNaming, IsSound, weight, IsEquated, IsFollowed, IsServed};
+ghost use Rattle.basic_solver.specs.Names.{name_in, IsNaming, IsSound, weight, IsEquated, IsFollowed};
+ghost use Rattle.basic_solver.specs.Flags.{AllAgree};
+ghost use Rattle.basic_solver.specs.Terms.{HavePlaces, FollowsNoted, IsServed};
+ghost use Rattle.basic_solver.specs.Twins.{FollowTwins};
+ghost use Rattle.basic_solver.specs.Rounds.{IsRound};
 
+use crate::clashing::all_agree;
 use crate::names::{are_alike, join, join_all};
+use crate::terms::{term_of, terms_of};
+use crate::twins::twins_of;
 use flat_form::{Basic, Flat};
+use std::alloc::Global;
+use tree_model::NoMemory;
 
 // Where the atom equates two variables, they get one name. Whether they had two.
 fn equate(leads: &[bool], names: &mut Vec<usize>, atom: &Flat) -> bool
@@ -53,53 +62,155 @@ fn follow(leads: &[bool], names: &mut Vec<usize>, a: &Flat, b: &Flat) -> bool
     false
 }
 
-// Lets the names follow the atom and all others. Whether a name changed.
-fn serve(leads: &[bool], names: &mut Vec<usize>, atoms: &Basic, atom: &Flat) -> bool
+// Lets the names follow the atom and the term that is noted for its class. Whether a name changed.
+fn follow_noted(
+    leads: &[bool],
+    names: &mut Vec<usize>,
+    terms: &[Option<usize>],
+    atoms: &Basic,
+    atom: &Flat,
+) -> bool
     requires naming { IsNaming leads.now names.old.items }
+    requires size { length terms.now ≡ length leads.now }
+    requires places { HavePlaces (length atoms.now) terms.now }
     requires over { BasicOver (length leads.now) atoms.now }
     requires one { Contains atoms.now atom.now }
     ensures naming { IsNaming leads.now names.new.items }
     ensures sound { IsSound atoms.now names.old.items → IsSound atoms.now names.new.items }
     ensures told { MatchBool result (weight leads.now names.new.items < weight leads.now names.old.items)
-        ((names.new.items ≡ names.old.items) × IsServed names.old.items atoms.now atom.now) }
+        ((names.new.items ≡ names.old.items) × FollowsNoted names.old.items terms.now atoms.now atom.now) }
+{
+    let Flat::VarTerm(u, _, _) = atom else {
+        return false;
+    };
+    match term_of(terms, atoms, names[*u]) {
+        Some(term) => follow(leads, names, atom, term),
+        None => false,
+    }
+}
+
+// Lets the names follow the atom alone, and then with the term that is noted for its class. Whether a name changed.
+fn serve(
+    leads: &[bool],
+    names: &mut Vec<usize>,
+    terms: &[Option<usize>],
+    atoms: &Basic,
+    atom: &Flat,
+) -> bool
+    requires naming { IsNaming leads.now names.old.items }
+    requires size { length terms.now ≡ length leads.now }
+    requires places { HavePlaces (length atoms.now) terms.now }
+    requires over { BasicOver (length leads.now) atoms.now }
+    requires one { Contains atoms.now atom.now }
+    ensures naming { IsNaming leads.now names.new.items }
+    ensures sound { IsSound atoms.now names.old.items → IsSound atoms.now names.new.items }
+    ensures told { MatchBool result (weight leads.now names.new.items < weight leads.now names.old.items)
+        ((names.new.items ≡ names.old.items) × IsServed names.old.items terms.now atoms.now atom.now) }
 {
     let mut changed = equate(leads, names, atom);
-    for i in 0..atoms.len() {
-        if follow(leads, names, atom, atoms.get(i)) {
-            changed = true;
-        }
+    if follow_noted(leads, names, terms, atoms, atom) {
+        changed = true;
     }
     changed
 }
 
-// Lets the names follow each atom once. Whether a name changed.
-fn serve_all(leads: &[bool], names: &mut Vec<usize>, atoms: &Basic) -> bool
+// Does so for each atom. Whether a name changed.
+fn serve_all(leads: &[bool], names: &mut Vec<usize>, terms: &[Option<usize>], atoms: &Basic) -> bool
     requires naming { IsNaming leads.now names.old.items }
+    requires size { length terms.now ≡ length leads.now }
+    requires places { HavePlaces (length atoms.now) terms.now }
     requires over { BasicOver (length leads.now) atoms.now }
     ensures naming { IsNaming leads.now names.new.items }
     ensures sound { IsSound atoms.now names.old.items → IsSound atoms.now names.new.items }
     ensures told { MatchBool result (weight leads.now names.new.items < weight leads.now names.old.items)
-        ((names.new.items ≡ names.old.items) × All (IsServed names.old.items atoms.now) atoms.now) }
+        ((names.new.items ≡ names.old.items) × All (IsServed names.old.items terms.now atoms.now) atoms.now) }
 {
     let mut changed = false;
     for i in 0..atoms.len() {
-        if serve(leads, names, atoms, atoms.get(i)) {
+        if serve(leads, names, terms, atoms, atoms.get(i)) {
             changed = true;
         }
     }
     changed
 }
 
-// Lets the names follow all atoms, until nothing changes.
-pub(crate) fn close(leads: &[bool], names: &mut Vec<usize>, atoms: &Basic)
+// Lets the names follow each atom and its twin. Whether a name changed.
+fn follow_twins(leads: &[bool], names: &mut Vec<usize>, twins: &[usize], atoms: &Basic) -> bool
+    requires naming { IsNaming leads.now names.old.items }
+    requires size { length twins.now ≡ length atoms.now }
+    requires within { (k : ℕ) → k < length atoms.now → slice_index twins.now k < length atoms.now }
+    requires over { BasicOver (length leads.now) atoms.now }
+    ensures naming { IsNaming leads.now names.new.items }
+    ensures sound { IsSound atoms.now names.old.items → IsSound atoms.now names.new.items }
+    ensures told { MatchBool result (weight leads.now names.new.items < weight leads.now names.old.items)
+        ((names.new.items ≡ names.old.items) × FollowTwins names.old.items twins.now atoms.now (length atoms.now)) }
+{
+    let mut changed = false;
+    for i in 0..atoms.len() {
+        if follow(leads, names, atoms.get(i), atoms.get(twins[i])) {
+            changed = true;
+        }
+    }
+    changed
+}
+
+// What came of letting the names follow all atoms once.
+#[derive(Clone, Copy, Debug, PartialEq, Eq, Drop)]
+enum Round {
+    // Two terms of one class clash.
+    Clashes,
+    // A name changed.
+    Changes,
+    // No name had to change.
+    Stays,
+}
+
+// Lets the names follow all atoms once, where none clash.
+fn take_round(
+    alloc: Global,
+    leads: &[bool],
+    names: &mut Vec<usize>,
+    atoms: &Basic,
+) -> Result<Round, NoMemory>
     requires naming { IsNaming leads.now names.old.items }
     requires over { BasicOver (length leads.now) atoms.now }
     ensures naming { IsNaming leads.now names.new.items }
     ensures sound { IsSound atoms.now names.old.items → IsSound atoms.now names.new.items }
-    ensures closed { IsClosed atoms.now (name_in names.new.items) }
+    ensures round { IfOk result (IsRound leads.now atoms.now names.old.items names.new.items) }
 {
-    let mut changed = true;
-    while changed {
-        changed = serve_all(leads, names, atoms);
+    let terms = terms_of(alloc, names, atoms)?;
+    if !all_agree(names, terms.as_slice(), atoms) {
+        return Ok(Round::Clashes);
+    }
+    if serve_all(leads, names, terms.as_slice(), atoms) {
+        return Ok(Round::Changes);
+    }
+    let twins = twins_of(alloc, names, atoms)?;
+    if follow_twins(leads, names, twins.as_slice(), atoms) {
+        return Ok(Round::Changes);
+    }
+    Ok(Round::Stays)
+}
+
+// Lets the names follow all atoms, until nothing changes or two terms clash. Whether no two terms clash.
+pub(crate) fn close(
+    alloc: Global,
+    leads: &[bool],
+    names: &mut Vec<usize>,
+    atoms: &Basic,
+) -> Result<bool, NoMemory>
+    requires naming { IsNaming leads.now names.old.items }
+    requires over { BasicOver (length leads.now) atoms.now }
+    ensures naming { IsNaming leads.now names.new.items }
+    ensures sound { IsSound atoms.now names.old.items → IsSound atoms.now names.new.items }
+    ensures closed { IfOk result (λ closed. MatchBool closed (IsClosed atoms.now (name_in names.new.items) × AllAgree names.new.items atoms.now)
+        (¬ AllAgree names.new.items atoms.now)) }
+{
+    loop {
+        match take_round(alloc, leads, names, atoms)? {
+            Round::Clashes => return Ok(false),
+            Round::Changes => {}
+            Round::Stays => return Ok(true),
+        }
     }
 }

@@ -6,68 +6,19 @@ ghost use Rattle.flat_form.specs.Solved.{IsOpen, IsDirect};
 ghost use Rattle.flat_form.specs.Added.{IsAdded};
 ghost use Rattle.basic_solver.specs.Names.{name_in};
 ghost use Rattle.basic_solver.specs.Flags.{AreNames};
-ghost use Rattle.basic_solver.specs.Outcomes.{AreLeads, LeavesOpen, IsNoFinite, with_lead, IsFiniteDone, IsTermAt, IsTermLine, IsFiniteLine, with_found, AreTables, IsLine, IsListed, IsOutcome};
+ghost use Rattle.basic_solver.specs.Outcomes.{AreLeads, with_lead, IsFiniteDone, IsTermFor, IsTermLine, IsFiniteLine, with_found, AreTables, IsLine, IsListed, IsOutcome};
+ghost use Rattle.basic_solver.specs.Terms.{AreTerms};
+ghost use Rattle.basic_solver.specs.Bases.{with_bound, AreBound, with_said, AreSaid, AreSized};
 
-use crate::clashing::all_agree;
+use crate::bases::{bound_by, leads_of, said_by};
 use crate::closing::close;
 use crate::grounding::grounded;
 use crate::names::apart;
 use crate::reaching::reached;
+use crate::terms::{term_of, terms_of};
 use flat_form::{Args, Basic, Flat};
 use std::alloc::Global;
 use tree_model::NoMemory;
-
-// Sets the flag of a variable with a term.
-fn lead(leads: &mut Vec<bool>, atom: &Flat)
-    requires { AtomOver (length leads.old.items) atom.now }
-    ensures { leads.new.items ≡ with_lead atom.now leads.old.items }
-{
-    match atom {
-        Flat::VarVar(_, _) => {}
-        Flat::VarTerm(u, _, _) => {
-            leads[*u] = true;
-        }
-        Flat::Finite(_) => {}
-    }
-}
-
-// Which variables have a term in the base.
-fn leads_of(alloc: Global, count: usize, base: &Basic) -> Result<Vec<bool>, NoMemory>
-    requires over { BasicOver count base.now }
-    ensures size { IfOk result (λ leads. length leads.items ≡ count) }
-    ensures leads { IfOk result (λ leads. AreLeads base.now leads.items) }
-{
-    let Ok(mut leads) = vec![in alloc; false; count] else {
-        return Err(NoMemory);
-    };
-    for i in 0..base.len() {
-        lead(&mut leads, base.get(i));
-    }
-    Ok(leads)
-}
-
-// Whether the atom is no equation for the variable.
-fn leaves_open(atom: &Flat, v: usize) -> bool
-    ensures { IsTrue result ↔ LeavesOpen v atom.now }
-{
-    match atom {
-        Flat::VarVar(u, _) => *u != v,
-        Flat::VarTerm(u, _, _) => *u != v,
-        Flat::Finite(_) => true,
-    }
-}
-
-// Whether the variable is left of no equation of the base.
-fn is_root(base: &Basic, v: usize) -> bool
-    ensures { IsTrue result ↔ All (LeavesOpen v) base.now }
-{
-    for i in 0..base.len() {
-        if !leaves_open(base.get(i), v) {
-            return false;
-        }
-    }
-    true
-}
 
 // The names of the arguments.
 fn heads(alloc: Global, names: &[usize], xs: &Args) -> Result<Args, NoMemory>
@@ -84,7 +35,7 @@ fn heads(alloc: Global, names: &[usize], xs: &Args) -> Result<Args, NoMemory>
 // The equation with the atom's term, where it is one of the class that has this name.
 fn term_at(alloc: Global, names: &[usize], atom: &Flat, v: usize) -> Result<Option<Flat>, NoMemory>
     requires over { AtomOver (length names.now) atom.now }
-    ensures { IfOk result (λ found. IsTermAt names.now atom.now v found) }
+    ensures { IfOk result (λ found. IsTermFor names.now atom.now v found) }
 {
     match atom {
         Flat::VarVar(_, _) => Ok(None),
@@ -103,84 +54,68 @@ fn term_at(alloc: Global, names: &[usize], atom: &Flat, v: usize) -> Result<Opti
 fn term_line(
     alloc: Global,
     names: &[usize],
+    terms: &[Option<usize>],
     atoms: &Basic,
     v: usize,
 ) -> Result<Option<Flat>, NoMemory>
+    requires terms { AreTerms names.now atoms.now terms.now }
+    requires within { v < length names.now }
     requires over { BasicOver (length names.now) atoms.now }
     ensures { IfOk result (λ found. IsTermLine names.now atoms.now v found) }
 {
-    for i in 0..atoms.len() {
-        match term_at(alloc, names, atoms.get(i), v)? {
-            Some(found) => return Ok(Some(found)),
-            None => {}
-        }
+    match term_of(terms, atoms, v) {
+        Some(term) => term_at(alloc, names, term, v),
+        None => Ok(None),
     }
-    Ok(None)
-}
-
-// Whether the atom says of no variable with this name that it is finite.
-fn is_no_finite(names: &[usize], atom: &Flat, name: usize) -> bool
-    requires over { AtomOver (length names.now) atom.now }
-    ensures { IsTrue result ↔ IsNoFinite names.now name atom.now }
-{
-    match atom {
-        Flat::VarVar(_, _) => true,
-        Flat::VarTerm(_, _, _) => true,
-        Flat::Finite(u) => names[*u] != name,
-    }
-}
-
-// Whether no variable with this name is finite by the base.
-fn none_is_finite(names: &[usize], base: &Basic, name: usize) -> bool
-    requires over { BasicOver (length names.now) base.now }
-    ensures { IsTrue result ↔ All (IsNoFinite names.now name) base.now }
-{
-    for i in 0..base.len() {
-        if !is_no_finite(names, base.get(i), name) {
-            return false;
-        }
-    }
-    true
 }
 
 // That the variable is finite, where its class is reached and the base does not say so.
-fn finite_line(names: &[usize], marks: &[bool], base: &Basic, v: usize) -> Option<Flat>
-    requires within { v < length marks.now }
-    requires over { BasicOver (length names.now) base.now }
-    ensures { IsFiniteLine names.now marks.now base.now v result }
+fn finite_line(marks: &[bool], said: &[bool], v: usize) -> Option<Flat>
+    requires marks { v < length marks.now }
+    requires said { v < length said.now }
+    ensures { (names : List ℕ) → (base : List Flat) → AreSaid names base said.now → IsFiniteLine names marks.now base v result }
 {
-    if marks[v] && none_is_finite(names, base, v) {
+    if marks[v] && !said[v] {
         Some(Flat::Finite(v))
     } else {
         None
     }
 }
 
+// What is noted of names and variables, for the atoms that are added.
+#[derive(Drop)]
+struct Notes {
+    bound: Vec<bool>,
+    said: Vec<bool>,
+    marks: Vec<bool>,
+    terms: Vec<Option<usize>>,
+}
+
 // The atom that is added for the variable.
 fn line(
     alloc: Global,
     names: &[usize],
-    marks: &[bool],
-    base: &Basic,
+    notes: &Notes,
     atoms: &Basic,
     v: usize,
 ) -> Result<Option<Flat>, NoMemory>
-    requires size { length marks.now ≡ length names.now }
+    requires size { AreSized (length names.now) notes.now }
+    requires terms { AreTerms names.now atoms.now notes.now.terms.items }
     requires within { v < length names.now }
     requires over { BasicOver (length names.now) atoms.now }
-    requires base_over { BasicOver (length names.now) base.now }
-    ensures { IfOk result (λ found. (leads : List Bool) → AreTables leads names.now marks.now base.now atoms.now → IsLine base.now atoms.now v found) }
+    ensures { IfOk result (λ found. (leads : List Bool) (base : List Flat) → AreTables leads names.now notes.now.marks.items base atoms.now
+        → AreBound base notes.now.bound.items → AreSaid names.now base notes.now.said.items → IsLine base atoms.now v found) }
 {
-    if !is_root(base, v) {
+    if notes.bound[v] {
         return Ok(None);
     }
     let head = names[v];
     if head != v {
         return Ok(Some(Flat::VarVar(v, head)));
     }
-    match term_line(alloc, names, atoms, v)? {
+    match term_line(alloc, names, notes.terms.as_slice(), atoms, v)? {
         Some(found) => Ok(Some(found)),
-        None => Ok(finite_line(names, marks, base, v)),
+        None => Ok(finite_line(notes.marks.as_slice(), notes.said.as_slice(), v)),
     }
 }
 
@@ -195,22 +130,17 @@ fn push_found(lines: &mut Basic, found: Option<Flat>) -> Result<(), NoMemory>
 }
 
 // The atoms that are added, in ascending order of their variables.
-fn lines(
-    alloc: Global,
-    names: &[usize],
-    marks: &[bool],
-    base: &Basic,
-    atoms: &Basic,
-) -> Result<Basic, NoMemory>
-    requires size { length marks.now ≡ length names.now }
+fn lines(alloc: Global, names: &[usize], notes: &Notes, atoms: &Basic) -> Result<Basic, NoMemory>
+    requires size { AreSized (length names.now) notes.now }
+    requires terms { AreTerms names.now atoms.now notes.now.terms.items }
     requires over { BasicOver (length names.now) atoms.now }
-    requires base_over { BasicOver (length names.now) base.now }
-    ensures { IfOk result (λ lines. (leads : List Bool) → AreTables leads names.now marks.now base.now atoms.now
-        → IsListed (length names.now) base.now atoms.now lines) }
+    ensures { IfOk result (λ lines. (leads : List Bool) (base : List Flat) → AreTables leads names.now notes.now.marks.items base atoms.now
+        → AreBound base notes.now.bound.items → AreSaid names.now base notes.now.said.items
+        → IsListed (length names.now) base atoms.now lines) }
 {
     let mut lines = Basic::new(alloc);
     for v in 0..names.len() {
-        let found = line(alloc, names, marks, base, atoms, v)?;
+        let found = line(alloc, names, notes, atoms, v)?;
         push_found(&mut lines, found)?;
     }
     Ok(lines)
@@ -263,15 +193,23 @@ pub(crate) fn added(
 {
     let leads = leads_of(alloc, count, base)?;
     let mut names = apart(alloc, count)?;
-    close(leads.as_slice(), &mut names, atoms);
-    if !all_agree(names.as_slice(), atoms) {
+    if !close(alloc, leads.as_slice(), &mut names, atoms)? {
         return Ok(None);
     }
-    let done = grounded(alloc, names.as_slice(), atoms)?;
+    let terms = terms_of(alloc, names.as_slice(), atoms)?;
+    let done = grounded(alloc, names.as_slice(), terms.as_slice(), atoms)?;
     if !are_finite(names.as_slice(), done.as_slice(), atoms) {
         return Ok(None);
     }
     let marks = reached(alloc, names.as_slice(), atoms)?;
-    let lines = lines(alloc, names.as_slice(), marks.as_slice(), base, atoms)?;
+    let bound = bound_by(alloc, count, base)?;
+    let said = said_by(alloc, names.as_slice(), base)?;
+    let notes = Notes {
+        bound,
+        said,
+        marks,
+        terms,
+    };
+    let lines = lines(alloc, names.as_slice(), &notes, atoms)?;
     Ok(Some(lines))
 }
