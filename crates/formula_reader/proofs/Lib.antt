@@ -6,6 +6,7 @@ pub mod Finding
 pub mod Forming
 pub mod FormulaReading
 pub mod FormulaSteps
+pub mod Keys
 pub mod NamesRead
 pub mod Numbers
 pub mod Places

@@ -11,10 +11,11 @@ use Rattle.formula_ast.specs.declared.token.TokenKind.{TokenKind}
 use Rattle.formula_ast.specs.declared.token.TokenKind.TheVariants as k
 use Rattle.formula_ast.specs.Tokens.{Stream, end, bad, token}
 use Rattle.formula_grammar.specs.declared.fault.FaultKind.{FaultKind}
+use Rattle.formula_grammar.specs.declared.fault.FaultKind.TheVariants.{Twice, Limit}
 use Rattle.formula_grammar.specs.Written.{Text}
 use Rattle.formula_grammar.specs.Machine as m
 use Rattle.formula_grammar.specs.Machine.{Stack, Role, goes, step, closed_place}
-use Rattle.formula_grammar.specs.Checks.{Environment, check_all, update, sooner, first_of, declared, is_declared, rank}
+use Rattle.formula_grammar.specs.Checks.{Environment, check, is_among, is_long, check_all, update, sooner, first_of, declared, is_declared, rank}
 use Rattle.formula_grammar.specs.FirstFault.{fault_from}
 use Rattle.formula_reader.specs.Input.{Input, left_of, starts, environment}
 use Rattle.formula_reader.specs.Faults.{fault_of, Takes}
@@ -92,6 +93,10 @@ first_false false kind more h = refl
 
 pub nothing_first : (wrong : Option FaultKind) (b : Bool) (kind : FaultKind) (more : List (Bool × FaultKind)) → sooner wrong (first_of ((b, kind) ∷ more)) ≡ None → b ≡ false
 nothing_first wrong b kind more h = first_false b kind more (sooner_none wrong (first_of ((b, kind) ∷ more)) h)
+
+-- a parameter that was taken stands nowhere before in its list
+pub new_parameter : (E : Environment) (wrong : Option FaultKind) (x : Text) (xs : List Text) → sooner wrong (check E (m.has_parameter x xs)) ≡ None → is_among x xs ≡ false
+new_parameter E wrong x xs h = nothing_first wrong (is_among x xs) Twice ((is_long x, Limit) ∷ (nat_le 16 (length xs), Limit) ∷ []) h
 
 pub not_declared : (d : Option (Kind × ℕ)) → is_declared d ≡ false → d ≡ None
 not_declared None h = refl

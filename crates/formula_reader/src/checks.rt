@@ -223,10 +223,12 @@ impl<'a> Reader<'a> {
         signature: &Signature,
         name: &str,
         place: Place<'_, '_>,
+        bound: bool,
     ) -> Option<FaultKind>
+        requires { bound ≡ g.is_among name.now (texts_of place.bound.now) }
         ensures { result ≡ check (environment signature.now self.now) (m.stands name.now (place_of place.entry)) }
     {
-        if place.closed && !is_among(name, place.bound) {
+        if place.closed && !bound {
             return Some(FaultKind::Loose);
         }
         when(is_long(name), FaultKind::Limit)

@@ -13,6 +13,7 @@ mod statements;
 mod terms;
 #[cfg(test)]
 mod tests;
+mod variables;
 mod words;
 
 pub use error::ReadError;

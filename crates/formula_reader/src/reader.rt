@@ -16,6 +16,7 @@ use crate::ReadError;
 use crate::checks::{sooner, when};
 use crate::error::refused;
 use crate::place::Place;
+use crate::variables::Variables;
 use formula_ast::Names;
 use formula_grammar::FaultKind;
 use formula_tokens::{Token, TokenKind, next_token};
@@ -36,7 +37,7 @@ pub(crate) struct Reader<'a> {
     // How many `&`, `|` and variables of quantifiers the statement has so far.
     pub(crate) joints: usize,
     // The names of the statement's variables so far, and whether one of them stands where nothing binds it.
-    pub(crate) names: Names,
+    pub(crate) names: Variables,
     pub(crate) loose: bool,
 }
 
@@ -72,7 +73,7 @@ impl<'a> Reader<'a> {
             at: 0,
             pending: None,
             joints: 0,
-            names: Names::new(alloc),
+            names: Variables::new(alloc),
             loose: false,
         }
     }
@@ -200,9 +201,10 @@ impl<'a> Reader<'a> {
     }
 
     // The names of the variables that were read.
-    pub(crate) fn into_names(self) -> Names
-        ensures { result ≡ self.entry.names }
+    pub(crate) fn into_names(self, alloc: Global) -> Result<Names, ReadError>
+        ensures names { IfOk result (λ names. names ≡ self.entry.names) }
+        ensures no_memory { IfErr result (λ error. error ≡ ReadError.NoMemory) }
     {
-        self.names
+        self.names.into_names(alloc)
     }
 }

@@ -16,7 +16,8 @@ use crate::ReadError;
 use crate::checks::value_of;
 use crate::place::Place;
 use crate::reader::Reader;
-use formula_ast::{File, Names, Pred, Statement};
+use crate::variables::Variables;
+use formula_ast::{File, Pred, Statement};
 use formula_grammar::{FaultKind, Shape};
 use formula_tokens::TokenKind;
 use signature::{DeclareError, Kind, Signature};
@@ -62,7 +63,7 @@ impl<'a> Reader<'a> {
     {
         self.take(kind, None)?;
         self.joints = 0;
-        self.names = Names::new(alloc);
+        self.names = Variables::new(alloc);
         self.loose = false;
         Ok(())
     }
@@ -119,6 +120,7 @@ impl<'a> Reader<'a> {
         signature: &Signature,
         parameters: &mut Vec<&'a str>,
     ) -> Result<(), ReadError>
+        requires { self.old.names ≡ texts_of parameters.old.items }
         ensures faults { (p : Text) (s : m.Stack) → Faults result (fault_of signature.now self.old (m.parameter p (texts_of parameters.old.items) ∷ s))
             (fault_of signature.now self.new (m.more_parameters p (texts_of parameters.new.items) ∷ s)) }
         ensures reads { OnOk result (ReadsParameter self.old self.new (texts_of parameters.old.items) (texts_of parameters.new.items)) }
@@ -131,7 +133,7 @@ impl<'a> Reader<'a> {
         let name = self.text(TokenKind::Variable);
         let wrong = self.check_parameter(signature, name, parameters);
         self.take(TokenKind::Variable, wrong)?;
-        self.names.push(String::from_str(alloc, name)?)?;
+        self.names.number(alloc, name)?;
         parameters.push(name)?;
         Ok(())
     }
@@ -194,7 +196,7 @@ impl<'a> Reader<'a> {
         self.take(TokenKind::Stop, None)?;
         let params = parameters.len();
         let place = declare(&mut file.signature, name, Kind::Pred, params)?;
-        let names = mem::replace(&mut self.names, Names::new(alloc));
+        let names = mem::replace(&mut self.names, Variables::new(alloc)).into_names(alloc)?;
         file.preds.push(Pred {
             place,
             params,
@@ -220,7 +222,7 @@ impl<'a> Reader<'a> {
         };
         let body = self.formula(alloc, &file.signature, place)?;
         self.expect(TokenKind::Stop)?;
-        let names = mem::replace(&mut self.names, Names::new(alloc));
+        let names = mem::replace(&mut self.names, Variables::new(alloc)).into_names(alloc)?;
         let built = is_answered(body.shape, self.loose);
         file.solves.push(Statement {
             names,

@@ -1,6 +1,5 @@
 // Reads words that are checked: variables, names and numbers.
-ghost use Rattle.std.specs.Prelude.{◌≡◌, ◌<◌, ℕ, List, [], ◌∷◌, ◌++◌, ◌||◌, not, suc, position, IsTrue, Some, None, IfOk, IfErr, OnOk};
-ghost use Rattle.std.specs.Str.{bytes_eq};
+ghost use Rattle.std.specs.Prelude.{◌≡◌, ◌<◌, ℕ, List, [], ◌∷◌, ◌++◌, ◌||◌, not, suc, IsTrue, IfOk, IfErr, OnOk};
 ghost use Rattle.tree_model.specs.Signatures.{Signature as Entries};
 ghost use Rattle.formula_ast.specs.declared.token.TokenKind.TheVariants as k;
 ghost use Rattle.formula_grammar.specs.Written.{Text};
@@ -17,39 +16,12 @@ use crate::ReadError;
 use crate::checks::{index_of, is_among, value_of};
 use crate::place::Place;
 use crate::reader::Reader;
-use formula_ast::Names;
 use formula_grammar::FaultKind;
 use formula_tokens::TokenKind;
 use signature::Signature;
 use std::alloc::Global;
 
-// The number of a variable, if it is among the names.
-fn number_in(names: &Names, variable: &str) -> Option<usize>
-    ensures { result ≡ position (λ name. bytes_eq name variable.now) names.now }
-{
-    for i in 0..names.len() {
-        if names.get(i) == variable {
-            return Some(i);
-        }
-    }
-    None
-}
-
 impl<'a> Reader<'a> {
-    // The number of a variable's name, which is added where it is new.
-    fn number(&mut self, alloc: Global, variable: &str) -> Result<usize, ReadError>
-        ensures named { OnOk result (self.new ≡ record self.old { names = first_occurrences self.old.names (variable.now ∷ []) }) }
-        ensures number { IfOk result (λ n. (more : List Text) → meaning.number_in (self.new.names ++ more) variable.now ≡ n) }
-        ensures no_memory { IfErr result (λ error. error ≡ ReadError.NoMemory) }
-    {
-        if let Some(number) = number_in(&self.names, variable) {
-            return Ok(number);
-        }
-        let number = self.names.len();
-        self.names.push(String::from_str(alloc, variable)?)?;
-        Ok(number)
-    }
-
     // Takes a variable that stands as a term.
     pub(crate) fn variable(
         &mut self,
@@ -66,10 +38,11 @@ impl<'a> Reader<'a> {
         ensures on { OnOk result (self.old.at < self.new.at) }
     {
         let name = self.text(TokenKind::Variable);
-        let wrong = self.check_stands(signature, name, place);
+        let bound = is_among(name, place.bound);
+        let wrong = self.check_stands(signature, name, place, bound);
         self.take(TokenKind::Variable, wrong)?;
-        let number = self.number(alloc, name)?;
-        if !is_among(name, place.bound) {
+        let number = self.names.number(alloc, name)?;
+        if !bound {
             self.loose = true;
         }
         Ok(number)
@@ -147,7 +120,7 @@ impl<'a> Reader<'a> {
         let wrong = self.check_binds(signature, name);
         self.take(TokenKind::Variable, wrong)?;
         self.joints += 1;
-        let number = self.number(alloc, name)?;
+        let number = self.names.number(alloc, name)?;
         bound.push(name)?;
         Ok(number)
     }

@@ -56,7 +56,7 @@ returns-in_err-finish-clause-refused c =
     exits (λ e. IsRefusedWith e (λ fault. IsFirstFault c.args.bytes.now fault)) _ _ c.from_residual-in_err-finish.ensures.1
     (refuses_first c.args.bytes.now _ _ (c.statements.invariant.progress.faults ∙ file_ends c.statements.file.signature c.statements.reader [] c.in_default.ensures.token) (refuses_as _ _ _ (c.in_err-finish.ensures c.statements.file.signature)))
 
-read : (c : goal.After-drop-reader-inside-in-None) → reading.ReadsAs c.args.bytes.now c.statements.file
+read : (c : goal.After-drop-reader-inside-in-None-4) → reading.ReadsAs c.args.bytes.now c.statements.file
 read c =
     file_read lawful_files c.args.bytes.now c.statements.reader c.statements.file c.if-bytes-gt-MOST_BYTES.false (c.statements.invariant.progress.faults ∙ file_ends c.statements.file.signature c.statements.reader [] c.in_default.ensures.token ∙ c.in_ok-finish.ensures c.statements.file.signature)
     (nothing_left c.statements.reader.bytes (left_of c.statements.reader) c.statements.reader.pending (environment c.statements.file.signature c.statements.reader) (c.in_ok-finish.ensures c.statements.file.signature))

@@ -27,4 +27,4 @@ returns-clause-formula c =
     formula_read lawful_formulas c.args.sig.now c.args.bytes.now _ _ c.in_ok-body.body _ c.if-bytes-gt-MOST_BYTES.false c.new-reader.ensures
     (formula_fault_from c.args.sig.now c.args.bytes.now c.if-bytes-gt-MOST_BYTES.false ∙ ap (λ i. fault_of c.args.sig.now i (m.formula m.open_place ∷ [])) (sym c.new-reader.ensures) ∙ c.in_ok-body.ensures.faults [] ∙ c.in_ok-finish.ensures c.args.sig.now)
     (nothing_left c.formula.new.self.bytes (left_of c.formula.new.self) c.formula.new.self.pending (environment c.args.sig.now c.formula.new.self) (c.in_ok-finish.ensures c.args.sig.now))
-    c.in_ok-body.ensures.reads c.into_names-names.ensures refl
+    c.in_ok-body.ensures.reads c.in_ok-names.ensures.names refl

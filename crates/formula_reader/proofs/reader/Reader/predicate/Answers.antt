@@ -82,4 +82,4 @@ returns-clause-reads c =
     (c.in_ok-expect.ensures.keeps.names ∙ c.in_ok-parameters.ensures.names)
     (subst (λ l. ReadsFormula g.formula c.args.file.now.signature (texts_of l) c.expect.new.self c.formula.new.self c.in_ok-body.body) c.deref.ensures.value c.in_ok-body.ensures.reads)
     (marks k.Stop (sym c.if-not-sees-2.ensures) c.in_ok-take-2.ensures.takes) (ap words_left c.self.view_is) c.in_ok-place.ensures.place
-    params (c.replace-names.ensures.value ∙ ap (λ (i : Input). i.names) c.self.view_is ∙ c.in_ok-take-2.ensures.keeps.names) refl declared c.in_ok-push.ensures.ok refl
+    params (c.in_ok-names.ensures.names ∙ c.replace.ensures.value ∙ ap (λ (i : Input). i.names) c.self.view_is ∙ c.in_ok-take-2.ensures.keeps.names) refl declared c.in_ok-push.ensures.ok refl
