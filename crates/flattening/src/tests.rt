@@ -339,3 +339,43 @@ fn a_table_finds_its_keys_alone(rt: HostRuntime) -> Result<(), Fail> {
     assert!(rt; table.find(&Key::Win(0, 0)).is_none());
     Ok(())
 }
+
+// A thousand conjunctions of `X = X`, nested to the left or to the right.
+fn deep(alloc: Global, to_the_left: bool) -> Result<Formula, Fail> {
+    let mut formula = formula_of(alloc, "=XX")?;
+    for _ in 0..1000 {
+        let nested = Boxed::new(alloc, formula)?;
+        let other = Boxed::new(alloc, formula_of(alloc, "=XX")?)?;
+        formula = if to_the_left {
+            Formula::And(nested, other)
+        } else {
+            Formula::And(other, nested)
+        };
+    }
+    Ok(formula)
+}
+
+// How many atoms and parts the first part has.
+fn sizes(normal: &Normal) -> (usize, usize) {
+    if normal.parts.len() == 0 {
+        return (0, 0);
+    }
+    let part = normal.parts.get(0);
+    (part.basic.len(), part.parts.len())
+}
+
+#[test]
+fn a_deep_formula_is_flattened(rt: HostRuntime) -> Result<(), Fail> {
+    for to_the_left in [true, false] {
+        let formula = deep(rt.alloc(), to_the_left)?;
+        let normal = normal_of(rt.alloc(), &formula, &[0])?;
+        assert_eq!(rt; sizes(&normal), (1001, 0));
+    }
+    let mut negated = Formula::False;
+    for _ in 0..1000 {
+        negated = Formula::Not(Boxed::new(rt.alloc(), negated)?);
+    }
+    let normal = normal_of(rt.alloc(), &negated, &[0])?;
+    assert_eq!(rt; sizes(&normal), (0, 1));
+    Ok(())
+}

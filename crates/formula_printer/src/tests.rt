@@ -227,11 +227,11 @@ fn each_atom_is_written(rt: HostRuntime) -> Result<(), Fail> {
     arguments.push(Term::Var(1))?;
     arguments.push(applied(alloc, Symbol::Further(0), &[])?)?;
     let constant = applied(alloc, Symbol::Named(2), &[])?;
-    let one = Formula::Eq(Term::Var(0), applied(alloc, Symbol::Named(0), &[0])?);
+    let one = Formula::Eq(Term::Var(0), applied(alloc, Symbol::Named(0), &[1])?);
     let quantified = Formula::Exists(1, boxed(alloc, one)?);
     assert_eq!(rt;
         checked_print(alloc, &sig, &quantified)?.as_str(),
-        "exists Y: X = f(X)"
+        "exists Y: X = f(Y)"
     );
     let differ = Formula::Differ(
         applied(alloc, Symbol::Named(1), &[0, 1])?,
