@@ -201,7 +201,7 @@ pub(crate) fn added(
     if !are_finite(names.as_slice(), done.as_slice(), atoms) {
         return Ok(None);
     }
-    let marks = reached(alloc, names.as_slice(), atoms)?;
+    let marks = reached(alloc, names.as_slice(), terms.as_slice(), atoms)?;
     let bound = bound_by(alloc, count, base)?;
     let said = said_by(alloc, names.as_slice(), base)?;
     let notes = Notes {

@@ -69,11 +69,11 @@ returns c =
       among = c.requires.among;
       direct = c.requires.direct;
     } in
-    let said : AreSaid names base c.in_ok-said.said.items = subst (λ (z : List ℕ). AreSaid z base c.in_ok-said.said.items) c.as_slice-8.ensures.value c.in_ok-said.ensures.said in
+    let said : AreSaid names base c.in_ok-said.said.items = subst (λ (z : List ℕ). AreSaid z base c.in_ok-said.said.items) c.as_slice-9.ensures.value c.in_ok-said.ensures.said in
     let there : (z : List ℕ) → z ≡ names → AreTables leads z marks base atoms × AreSaid z base c.in_ok-said.said.items =
     λ z e. subst (λ (z : List ℕ). AreTables leads z marks base atoms × AreSaid z base c.in_ok-said.said.items) (sym e) (tables, said) in
-    let given = there c.as_slice-9.result.now c.as_slice-9.ensures.value in
+    let given = there c.as_slice-10.result.now c.as_slice-10.ensures.value in
     let listed : IsListed (length names) base atoms c.in_ok-lines.lines =
-    subst (λ (z : List ℕ). IsListed (length z) base atoms c.in_ok-lines.lines) c.as_slice-9.ensures.value
+    subst (λ (z : List ℕ). IsListed (length z) base atoms c.in_ok-lines.lines) c.as_slice-10.ensures.value
     (c.in_ok-lines.ensures leads base given.0 c.in_ok-bound.ensures.bound given.1) in
     listed_added (length names) base atoms c.in_ok-lines.lines over (solvable names atoms classes done finished finite) listed
