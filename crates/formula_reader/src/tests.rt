@@ -35,79 +35,100 @@ fn write_term(shown: &mut String, term: &Term) -> Result<(), AllocError> {
     }
 }
 
-#[cycle(write_formula)]
-fn write_joined(
-    shown: &mut String,
-    left: &Formula,
-    mark: &str,
-    right: &Formula,
-) -> Result<(), AllocError> {
-    write!(shown, "(")?;
-    write_formula(shown, left)?;
-    write!(shown, " {mark} ")?;
-    write_formula(shown, right)?;
-    write!(shown, ")")
+fn term_text(alloc: Global, term: &Term) -> Result<String, AllocError> {
+    let mut shown = String::new(alloc);
+    write_term(&mut shown, term)?;
+    Ok(shown)
 }
 
-fn write_compared(
-    shown: &mut String,
+fn compared_text(
+    alloc: Global,
     left: &Term,
     mark: &str,
     right: &Term,
-) -> Result<(), AllocError> {
-    write_term(shown, left)?;
-    write!(shown, " {mark} ")?;
-    write_term(shown, right)
+) -> Result<String, AllocError> {
+    let left = term_text(alloc, left)?;
+    let right = term_text(alloc, right)?;
+    format!(in alloc; "{left} {mark} {right}")
+}
+
+fn called_text(alloc: Global, place: usize, arguments: &Terms) -> Result<String, AllocError> {
+    let mut shown = format!(in alloc; "#{place}")?;
+    write_arguments(&mut shown, arguments)?;
+    Ok(shown)
+}
+
+fn joined_text(
+    alloc: Global,
+    left: Result<String, AllocError>,
+    mark: &str,
+    right: Result<String, AllocError>,
+) -> Result<String, AllocError> {
+    let left = left?;
+    let right = right?;
+    format!(in alloc; "({left} {mark} {right})")
 }
 
 // A formula with parentheses round each two that are joined.
-#[cycle(write_formula)]
-fn write_formula(shown: &mut String, formula: &Formula) -> Result<(), AllocError> {
+fn formula_text(alloc: Global, formula: &Formula) -> Result<String, AllocError> {
     match formula {
-        Formula::True => write!(shown, "true"),
-        Formula::False => write!(shown, "false"),
-        Formula::Eq(left, right) => write_compared(shown, left, "=", right),
-        Formula::Differ(left, right) => write_compared(shown, left, "!=", right),
+        Formula::True => String::from_str(alloc, "true"),
+        Formula::False => String::from_str(alloc, "false"),
+        Formula::Eq(left, right) => compared_text(alloc, left, "=", right),
+        Formula::Differ(left, right) => compared_text(alloc, left, "!=", right),
         Formula::Finite(term) => {
-            write!(shown, "finite ")?;
-            write_term(shown, term)
+            let term = term_text(alloc, term)?;
+            format!(in alloc; "finite {term}")
         }
-        Formula::Call(place, arguments) => {
-            write!(shown, "#{place}")?;
-            write_arguments(shown, arguments)
-        }
+        Formula::Call(place, arguments) => called_text(alloc, *place, arguments),
         Formula::Win(place, moves, term) => {
-            write!(shown, "win {place} {moves} ")?;
-            write_term(shown, term)
+            let term = term_text(alloc, term)?;
+            format!(in alloc; "win {place} {moves} {term}")
         }
         Formula::Not(inner) => {
-            write!(shown, "~")?;
-            write_formula(shown, inner.get())
+            let inner = formula_text(alloc, inner.get())?;
+            format!(in alloc; "~{inner}")
         }
-        Formula::And(left, right) => write_joined(shown, left.get(), "&", right.get()),
-        Formula::Or(left, right) => write_joined(shown, left.get(), "|", right.get()),
-        Formula::Imp(left, right) => write_joined(shown, left.get(), "->", right.get()),
-        Formula::Iff(left, right) => write_joined(shown, left.get(), "<->", right.get()),
+        Formula::And(left, right) => {
+            let left = formula_text(alloc, left.get());
+            joined_text(alloc, left, "&", formula_text(alloc, right.get()))
+        }
+        Formula::Or(left, right) => {
+            let left = formula_text(alloc, left.get());
+            joined_text(alloc, left, "|", formula_text(alloc, right.get()))
+        }
+        Formula::Imp(left, right) => {
+            let left = formula_text(alloc, left.get());
+            joined_text(alloc, left, "->", formula_text(alloc, right.get()))
+        }
+        Formula::Iff(left, right) => {
+            let left = formula_text(alloc, left.get());
+            joined_text(alloc, left, "<->", formula_text(alloc, right.get()))
+        }
         Formula::Exists(number, body) => {
-            write!(shown, "exists {number} ")?;
-            write_formula(shown, body.get())
+            let body = formula_text(alloc, body.get())?;
+            format!(in alloc; "exists {number} {body}")
         }
         Formula::Forall(number, body) => {
-            write!(shown, "forall {number} ")?;
-            write_formula(shown, body.get())
+            let body = formula_text(alloc, body.get())?;
+            format!(in alloc; "forall {number} {body}")
         }
     }
 }
 
 // The names of a statement's variables, and its formula.
-fn write_statement(shown: &mut String, statement: &Statement) -> Result<(), AllocError> {
+fn write_statement(
+    alloc: Global,
+    shown: &mut String,
+    statement: &Statement,
+) -> Result<(), AllocError> {
     write!(shown, "[")?;
     for number in 0..statement.names.len() {
         let name = statement.names.get(number);
         write!(shown, "{name} ")?;
     }
-    write!(shown, "] ")?;
-    write_formula(shown, &statement.body)
+    let body = formula_text(alloc, &statement.body)?;
+    write!(shown, "] {body}")
 }
 
 // The names that a file declares, and its questions.
@@ -119,7 +140,7 @@ fn shown(alloc: Global, file: &File) -> Result<String, AllocError> {
         write!(shown, "{kind:?} {name}/{arity}. ")?;
     }
     for i in 0..file.solves.len() {
-        write_statement(&mut shown, file.solves.get(i))?;
+        write_statement(alloc, &mut shown, file.solves.get(i))?;
     }
     Ok(shown)
 }
@@ -193,7 +214,7 @@ fn operators_bind_by_their_strength(rt: HostRuntime) -> Result<(), Fail> {
     ] {
         let read = read_formula(rt.alloc(), &signature, text.as_bytes())?;
         let mut written = String::new(rt.alloc());
-        write_statement(&mut written, &read)?;
+        write_statement(rt.alloc(), &mut written, &read)?;
         assert_eq!(rt; written.as_str(), statement, "{text}");
     }
     Ok(())

@@ -35,8 +35,8 @@ impl Variables {
         }
     }
 
-    // The number of a name, if it is there.
-    fn find(&self, name: &str) -> Option<usize>
+    /// The number of a name, if it is there.
+    pub(crate) fn find(&self, name: &str) -> Option<usize>
         ensures { result ≡ position (λ other. bytes_eq other name.now) self.now }
     {
         self.texts.get_index_of(name)

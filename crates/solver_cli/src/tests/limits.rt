@@ -211,6 +211,13 @@ fn joints_of_one_statement(rt: HostRuntime) -> Result<(), Fail> {
             "",
             "fault 7011 limit\n",
         ),
+        // parameters are none of them
+        (
+            &[("pred p(X, Y) := true", 1), (" & true", 1000), (".", 1)],
+            Refused,
+            "",
+            "fault 0 notbuilt\n",
+        ),
         (
             &[("solve true", 1), (" | true", 1001), (".", 1)],
             Refused,
