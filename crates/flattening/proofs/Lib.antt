@@ -3,6 +3,7 @@ pub mod ByForm
 pub mod CubesMean
 pub mod EachCube
 pub mod Filled
+pub mod Fitting
 pub mod Given
 pub mod Meaning
 pub mod Norms

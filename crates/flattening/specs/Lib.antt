@@ -1,4 +1,5 @@
 pub mod Conditions
+pub mod FittingLaws
 pub mod Flattening
 pub mod Numbers
 pub mod Plain

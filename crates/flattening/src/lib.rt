@@ -4,11 +4,13 @@
 mod atoms;
 mod conjunctions;
 mod cubes;
+mod laws;
 mod numbers;
 mod solved;
 mod terms;
 
 pub use conjunctions::flatten;
+pub use laws::well_formed_fits;
 pub use solved::{Key, Solved};
 
 #[cfg(test)]

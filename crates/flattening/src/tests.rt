@@ -379,3 +379,8 @@ fn a_deep_formula_is_flattened(rt: HostRuntime) -> Result<(), Fail> {
     assert_eq!(rt; sizes(&normal), (0, 1));
     Ok(())
 }
+
+#[test]
+fn laws_can_be_called(_rt: HostRuntime) {
+    well_formed_fits();
+}
