@@ -1,5 +1,5 @@
 //! Names of classes: for each variable one of its class, the same for all of the class.
-ghost use Rattle.std.specs.Prelude.{◌≡◌, ℕ, ◌<◌, List, length, slice_index, slice_index_or, IfOk, IsTrue, ◌↔◌, MatchBool};
+ghost use Rattle.std.specs.Prelude.{◌≡◌, ℕ, ◌<◌, List, length, cond, eqb, slice_index, slice_index_or, IfOk, IsTrue, ◌↔◌, MatchBool};
 ghost use Rattle.flat_form.specs.declared.atom.Flat.{Flat};
 ghost use Rattle.flat_form.specs.Classes.{Class};
 ghost use Rattle.basic_solver.specs.Names.{name_in, rank, IsNaming, IsSound, weight, renamed, AreAlike};
@@ -34,14 +34,19 @@ fn comes_before(leads: &[bool], u: usize, v: usize) -> bool
     }
 }
 
+// The name, or `low` in place of `high`.
+fn new_name(name: usize, high: usize, low: usize) -> usize
+    ensures { result ≡ cond (eqb name high) low name }
+{
+    if name == high { low } else { name }
+}
+
 // What is named `high` is now named `low`.
 fn rename(names: &mut Vec<usize>, high: usize, low: usize)
     ensures { names.new.items ≡ renamed high low names.old.items }
 {
     for i in 0..names.len() {
-        if names[i] == high {
-            names[i] = low;
-        }
+        names[i] = new_name(names[i], high, low);
     }
 }
 
