@@ -1,4 +1,4 @@
-ghost use Rattle.std.specs.Prelude.{◌≡◌, ◌/◌, ◌<◌, ◌≤◌, length, IfOk, OnOk};
+ghost use Rattle.std.specs.Prelude.{◌≡◌, ◌/◌, ◌<◌, ◌≤◌, length, IfOk, OnOk, IfSome};
 ghost use Rattle.flat_form.specs.Numbering.{AtomOver};
 ghost use Rattle.basic_solver.specs.Stores.{open_in};
 
@@ -138,7 +138,22 @@ fn all_answer(alloc: Global, store: &mut Store, text: &[u8]) -> Result<bool, NoM
     Ok(as_expected)
 }
 
-// Whether asserting the first atoms, and then the further ones in a second scope, has these outcomes.
+// A store that was asserted the first atoms, and the further ones in a second scope, where this has the outcomes told.
+fn in_two_scopes(alloc: Global, lower: &[u8], top: &[u8]) -> Result<Option<Store>, NoMemory>
+    ensures { IfOk result (λ found. IfSome found (λ store. 1 < length store)) }
+{
+    let mut store = Store::new(alloc, 8)?;
+    if !all_answer(alloc, &mut store, lower)? {
+        return Ok(None);
+    }
+    store.push(0)?;
+    if !all_answer(alloc, &mut store, top)? {
+        return Ok(None);
+    }
+    Ok(Some(store))
+}
+
+// Whether so asserted the atoms have this solved form, and the second scope adds that.
 fn is_solved_so(
     alloc: Global,
     lower: &[u8],
@@ -146,18 +161,22 @@ fn is_solved_so(
     form: &[u8],
     extra: &[u8],
 ) -> Result<bool, NoMemory> {
-    let mut store = Store::new(alloc, 8)?;
-    if !all_answer(alloc, &mut store, lower)? {
+    let Some(store) = in_two_scopes(alloc, lower, top)? else {
         return Ok(false);
-    }
-    store.push(0)?;
-    if !all_answer(alloc, &mut store, top)? {
-        return Ok(false);
-    }
+    };
     let basic = store.basic(alloc)?;
     let more = store.extra(alloc)?;
-    store.pop();
     Ok(is_list(alloc, &basic, form)? && is_list(alloc, &more, extra)?)
+}
+
+// Whether so asserted, and without the second scope again, the atoms have this solved form.
+fn is_left_so(alloc: Global, lower: &[u8], top: &[u8], form: &[u8]) -> Result<bool, NoMemory> {
+    let Some(mut store) = in_two_scopes(alloc, lower, top)? else {
+        return Ok(false);
+    };
+    store.pop();
+    let basic = store.basic(alloc)?;
+    is_list(alloc, &basic, form)
 }
 
 #[test]
@@ -177,12 +196,6 @@ fn outcomes_are_those_of_a_slow_model(rt: HostRuntime) -> Result<(), Fail> {
 
 #[test]
 fn a_scope_that_is_given_up_says_nothing(rt: HostRuntime) -> Result<(), Fail> {
-    let mut store = Store::new(rt.alloc(), 8)?;
-    assert!(rt; all_answer(rt.alloc(), &mut store, b"fHA.+")?);
-    store.push(0)?;
-    assert!(rt; all_answer(rt.alloc(), &mut store, b"aH..#!H..+")?);
-    store.pop();
-    let basic = store.basic(rt.alloc())?;
-    assert!(rt; is_list(rt.alloc(), &basic, b"fHA..")?);
+    assert!(rt; is_left_so(rt.alloc(), b"fHA.+", b"aH..#!H..+", b"fHA..")?);
     Ok(())
 }

@@ -2,7 +2,7 @@ use Rattle.std.proofs.Common.{[], ap, arith}
 use Rattle.basic_solver.specs.declared.scope.Scope.{Scope}
 use Rattle.basic_solver.specs.Stores.{open_in}
 use Rattle.basic_solver.proofs.Storing.{open_push}
-use Rattle.basic_solver.proofs.tests.is_solved_so.Goals as goal
+use Rattle.basic_solver.proofs.tests.in_two_scopes.Goals as goal
 
 pub all_answer-requires-2 : goal.all_answer-requires-2
 all_answer-requires-2 c =
