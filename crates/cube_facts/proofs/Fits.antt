@@ -54,7 +54,7 @@ module _ (Q : Symbol → ℕ → Type 0) where
   pub tail_fits : (part : Part) (parts : List Part) → PartsFit Q (part ∷ parts) → PartsFit Q parts
   tail_fits part parts f = record { each = λ other i. f.each other (contains_later part other parts i) }
 
-  more_fit : (part : Part) (parts : List Part) → Fit Q part.basic → PartsFit Q parts → PartsFit Q (part ∷ parts)
+  pub more_fit : (part : Part) (parts : List Part) → Fit Q part.basic → PartsFit Q parts → PartsFit Q (part ∷ parts)
   more_fit part parts f rest = record {
     each = λ other i. elim (contains_cases part other parts i) [
       | inl e ↦ subst (λ (z : Part). Fit Q z.basic) e f
@@ -65,7 +65,7 @@ module _ (Q : Symbol → ℕ → Type 0) where
   pub none_fit : PartsFit Q []
   none_fit = record { each = λ part i. absurd (omega (arith, i.1)) }
 
-  one_more_fits : (done : List Part) (part : Part) → PartsFit Q done → Fit Q part.basic → PartsFit Q (done ++ part ∷ [])
+  pub one_more_fits : (done : List Part) (part : Part) → PartsFit Q done → Fit Q part.basic → PartsFit Q (done ++ part ∷ [])
   one_more_fits done part f last = record {
     each = λ other i. elim (Contains-append_cases done (part ∷ []) other i) [
       | inl p ↦ f.each other p
