@@ -18,7 +18,7 @@ use Rattle.formula_ast.specs.declared.term.Term.TheOpen.{Term-F}
 use Rattle.formula_ast.specs.declared.term.Term.TheOpen as layer
 use Rattle.formula_ast.specs.declared.term.Term.TheViews.{out-Term}
 use Rattle.formula_ast.specs.declared.term.Terms.{Terms}
-use Rattle.formula_ast.specs.Leaf.{leaf}
+use Rattle.tree_model.specs.OneNode.{constant}
 use Rattle.formula_ast.specs.Terms.{list_of, reads, layer_reads, subterm, argument}
 use Rattle.formula_ast.specs.Forms.{Form, form_of, equal, and, exists}
 use Rattle.formula_ast.specs.Satisfaction.{Relations, Holds, meaning_of}
@@ -127,10 +127,10 @@ module _ (f : Form) (closed : IsClosedConjunction f) where
       → IsRight f answer
   answer_is_right true solved = record {
     always = λ σ preds fit. let (d, hold) = solved σ fit in (λ yes. holds_always σ preds d hold, λ h. refl);
-    never = λ σ preds fit. let (d, hold) = solved σ fit in (λ no_answer. absurd (no_answer refl), λ h. absurd (h (λ v. leaf σ) (holds_always σ preds d hold (λ v. leaf σ))));
+    never = λ σ preds fit. let (d, hold) = solved σ fit in (λ no_answer. absurd (no_answer refl), λ h. absurd (h (λ v. constant σ 0) (holds_always σ preds d hold (λ v. constant σ 0))));
   }
   answer_is_right false none = record {
-    always = λ σ preds fit. (λ yes. absurd (cc yes), λ h. absurd (holds_never σ preds none (λ v. leaf σ) (h (λ v. leaf σ))));
+    always = λ σ preds fit. (λ yes. absurd (cc yes), λ h. absurd (holds_never σ preds none (λ v. constant σ 0) (h (λ v. constant σ 0))));
     never = λ σ preds fit. (λ no_answer. holds_never σ preds none, λ h yes. absurd (cc yes));
   }
 
