@@ -264,7 +264,7 @@ fn a_formula_may_use_names_past_the_limits_of_files(rt: HostRuntime) -> Result<(
 }
 
 #[test]
-fn files_of_equations_are_read(rt: HostRuntime) -> Result<(), Fail> {
+fn files_of_closed_questions_are_read(rt: HostRuntime) -> Result<(), Fail> {
     for (text, file) in [
         ("", ""),
         (" \t\r\n% solve\n% é", ""),
@@ -275,6 +275,10 @@ fn files_of_equations_are_read(rt: HostRuntime) -> Result<(), Fail> {
         (
             "%f\nsymbol%g\nf/1.solve exists X_1:(X_1=f(X_1)&X_1=X_1).% the end",
             "Symbol f/1. [X_1 ] exists 0 (0 = #0(0) & 0 = 0)",
+        ),
+        (
+            "solve ((true)). solve exists X: ~forall Y: (X != Y -> finite(X) | false <-> true).",
+            "[] true[X Y ] exists 0 ~forall 1 ((0 != 1 -> (finite 0 | false)) <-> true)",
         ),
     ] {
         let read = read_file(rt.alloc(), text.as_bytes())?;
@@ -362,15 +366,24 @@ fn other_files_are_refused_at_their_first_fault(rt: HostRuntime) {
             39,
             FaultKind::Ended,
         ),
-        ("solve exists X: ((X = X)).", 0, FaultKind::NotBuilt),
-        ("solve exists X: exists Y: X = Y.", 0, FaultKind::NotBuilt),
         ("solve exists X: X = Y.", 0, FaultKind::NotBuilt),
-        ("solve exists X: (X = X & (X = X)).", 0, FaultKind::NotBuilt),
-        ("solve exists X: X != X.", 0, FaultKind::NotBuilt),
-        ("solve forall X: X = X.", 0, FaultKind::NotBuilt),
-        ("solve (exists X: X = X).", 0, FaultKind::NotBuilt),
-        ("solve exists X: X = X & true.", 0, FaultKind::NotBuilt),
-        ("solve exists X: (X = X | X = X).", 0, FaultKind::NotBuilt),
+        ("solve exists X: X = X & finite(X).", 0, FaultKind::NotBuilt),
+        ("solve ~finite($1(X)).", 0, FaultKind::NotBuilt),
+        (
+            "solve forall X: X = X. pred p := true. solve X = X.",
+            23,
+            FaultKind::NotBuilt,
+        ),
+        (
+            "solve true. solve X = X. pred p := true.",
+            12,
+            FaultKind::NotBuilt,
+        ),
+        (
+            "pred p := true. solve p. solve X = X.",
+            0,
+            FaultKind::NotBuilt,
+        ),
         ("solve true. #", 12, FaultKind::Byte),
         ("solve true. symbol", 18, FaultKind::Ended),
         ("solve X = X % c", 15, FaultKind::Ended),
