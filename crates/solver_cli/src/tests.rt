@@ -1,4 +1,5 @@
 // Runs over memory.
+mod closed;
 mod faults;
 mod fronts;
 mod limits;
@@ -126,6 +127,36 @@ fn questions_are_answered(rt: HostRuntime) -> Result<(), Fail> {
             "symbol f/1. solve exists X: X = f(X). solve exists X: X = X.",
             Status::Done,
             "1 true\n2 true\n",
+            "",
+        ),
+        (
+            "symbol f/1. solve exists X: (X = f(X) & finite(X)).",
+            Status::Done,
+            "1 false\n",
+            "",
+        ),
+        (
+            "symbol f/1. solve forall X Y: (X = f(X) & Y = f(Y) -> X = Y).",
+            Status::Done,
+            "1 true\n",
+            "",
+        ),
+        (
+            "symbol f/1. solve forall X: (X = f(f(X)) -> X = f(X)).",
+            Status::Done,
+            "1 true\n",
+            "",
+        ),
+        (
+            "symbol a/0. solve forall X: X = a.",
+            Status::Done,
+            "1 false\n",
+            "",
+        ),
+        (
+            "symbol a/0, b/0. solve exists X: (X = a & exists X: X = b).",
+            Status::Done,
+            "1 true\n",
             "",
         ),
         ("solve exists X: $0 = $0(X).", Status::Done, "1 false\n", ""),

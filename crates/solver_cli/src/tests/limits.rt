@@ -57,9 +57,9 @@ fn nestings(rt: HostRuntime) -> Result<(), Fail> {
     let cases: &[LongCase] = &[
         (
             &[("solve ", 1), ("~", 200), ("true.", 1)],
-            Refused,
+            Done,
+            "1 true\n",
             "",
-            "fault 0 notbuilt\n",
         ),
         (
             &[("solve ", 1), ("~", 201), ("true.", 1)],
@@ -69,9 +69,9 @@ fn nestings(rt: HostRuntime) -> Result<(), Fail> {
         ),
         (
             &[("solve ", 1), ("(", 200), ("true", 1), (")", 200), (".", 1)],
-            Refused,
+            Done,
+            "1 true\n",
             "",
-            "fault 0 notbuilt\n",
         ),
         (
             &[("solve ", 1), ("(", 201), ("true", 1), (")", 201), (".", 1)],
@@ -81,9 +81,9 @@ fn nestings(rt: HostRuntime) -> Result<(), Fail> {
         ),
         (
             &[("solve ", 1), ("exists X: ", 200), ("true.", 1)],
-            Refused,
+            Done,
+            "1 true\n",
             "",
-            "fault 0 notbuilt\n",
         ),
         (
             &[("solve ", 1), ("forall X: ", 201), ("true.", 1)],
@@ -93,9 +93,9 @@ fn nestings(rt: HostRuntime) -> Result<(), Fail> {
         ),
         (
             &[("solve ", 1), ("true -> ", 200), ("true.", 1)],
-            Refused,
+            Done,
+            "1 true\n",
             "",
-            "fault 0 notbuilt\n",
         ),
         (
             &[("solve ", 1), ("true -> ", 201), ("true.", 1)],
@@ -164,9 +164,9 @@ fn nestings(rt: HostRuntime) -> Result<(), Fail> {
         // depth counts, and no total
         (
             &[("solve (true)", 1), (" & (true)", 299), (".", 1)],
-            Refused,
+            Done,
+            "1 true\n",
             "",
-            "fault 0 notbuilt\n",
         ),
         (
             &[
@@ -176,9 +176,9 @@ fn nestings(rt: HostRuntime) -> Result<(), Fail> {
                 (" -> true", 199),
                 (").", 1),
             ],
-            Refused,
+            Done,
+            "1 true\n",
             "",
-            "fault 0 notbuilt\n",
         ),
         (
             &[
@@ -201,9 +201,9 @@ fn joints_of_one_statement(rt: HostRuntime) -> Result<(), Fail> {
     let cases: &[LongCase] = &[
         (
             &[("solve true", 1), (" & true", 1000), (".", 1)],
-            Refused,
+            Done,
+            "1 true\n",
             "",
-            "fault 0 notbuilt\n",
         ),
         (
             &[("solve true", 1), (" & true", 1001), (".", 1)],
@@ -217,6 +217,12 @@ fn joints_of_one_statement(rt: HostRuntime) -> Result<(), Fail> {
             Refused,
             "",
             "fault 0 notbuilt\n",
+        ),
+        (
+            &[("solve false", 1), (" | false", 1000), (".", 1)],
+            Done,
+            "1 false\n",
+            "",
         ),
         (
             &[("solve true", 1), (" | true", 1001), (".", 1)],
