@@ -1,0 +1,17 @@
+pub mod Cleared
+pub mod ClearedMeans
+pub mod Finished
+pub mod Grouped
+pub mod GroupedMeans
+pub mod GroupedShape
+pub mod InnerNumbers
+pub mod NoneExactly
+pub mod Occurrences
+pub mod OneGrouping
+pub mod OneNumbering
+pub mod OneOrder
+pub mod OneOutcome
+pub mod OneSettling
+pub mod OutcomeMeans
+pub mod ReducedOutcomes
+pub mod StepFits
