@@ -7,7 +7,7 @@ use Rattle.classical.proofs.Codes.{coded_stable, nat_stable}
 use Rattle.classical.proofs.Stable.{◌>>=◌, either_way, and_stable}
 use Rattle.tree_model.specs.declared.tree.Symbol.{Symbol}
 use Rattle.tree_model.proofs.Stability.{symbol_code}
-use Rattle.tree_facts.specs.Indexes.{constant}
+use Rattle.tree_model.specs.OneNode.{constant}
 use Rattle.tree_facts.proofs.Indexes.{constant_finite}
 use Rattle.tree_facts.proofs.Members.{contains_first, contains_later, contains_cases}
 use Rattle.flat_form.specs.declared.atom.Flat.{Flat}

@@ -10,7 +10,7 @@ use Rattle.tree_model.specs.Valuations.{Valuation}
 use Rattle.tree_model.proofs.Sameness.{finite_same}
 use Rattle.tree_model.proofs.Stability.{read_stable}
 use Rattle.tree_facts.specs.Equations.{equals_variable, equals_term, Solves}
-use Rattle.tree_facts.specs.Indexes.{constant}
+use Rattle.tree_model.specs.OneNode.{constant}
 use Rattle.tree_facts.proofs.Equations.{at_past, within_or_past}
 use Rattle.tree_facts.proofs.Existence.{has_solution}
 use Rattle.tree_facts.proofs.Indexes.{constant_finite}

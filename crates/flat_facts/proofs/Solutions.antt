@@ -9,7 +9,7 @@ use Rattle.tree_model.specs.Trees.{at, IsFinite}
 use Rattle.tree_model.specs.Valuations.{Valuation}
 use Rattle.tree_model.proofs.Sameness.{finite_same}
 use Rattle.tree_facts.specs.Equations.{equals_variable, equals_term, Solves, HasDistinctLefts}
-use Rattle.tree_facts.specs.Indexes.{constant, loop}
+use Rattle.tree_model.specs.OneNode.{constant, loop}
 use Rattle.tree_facts.proofs.Existence.{has_solution}
 use Rattle.tree_facts.proofs.Indexes.{constant_finite, loop_infinite}
 use Rattle.tree_facts.proofs.Members.{contains_first}

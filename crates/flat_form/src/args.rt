@@ -1,9 +1,9 @@
-ghost use Rattle.std.specs.Prelude.{◌≡◌, List, [], ◌∷◌, ◌++◌, ◌<◌, length, slice_index, IfOk, IsOk, OnOk, OnErr};
+ghost use Rattle.std.specs.Prelude.{◌≡◌, List, [], ◌∷◌, ◌++◌, ◌<◌, length, slice_index, IsOk, OnOk, OnErr};
 
+use lists::{Copied, NoMemory};
 use smallvec::SmallVec;
 use std::alloc::Global;
 use std::marker::Model;
-use tree_model::NoMemory;
 
 /// The arguments of a symbol: variables. The first eight stand in the value itself.
 #[derive(Debug, Drop)]
@@ -37,10 +37,8 @@ impl Args {
         ensures err { OnErr result (self.new ≡ self.old) }
         ensures first_eight { length self.old < 8 → IsOk result }
     {
-        match self.items.push(item) {
-            Ok(()) => Ok(()),
-            Err(_) => Err(NoMemory),
-        }
+        self.items.push(item)?;
+        Ok(())
     }
 
     /// How many items there are. It takes no memory.
@@ -58,13 +56,19 @@ impl Args {
         &self.items.as_slice()[i]
     }
 
-    /// An equal list.
-    pub fn copy(&self, alloc: Global) -> Result<Args, NoMemory>
-        ensures { IfOk result (λ copy. copy ≡ self.now) }
+    /// The items. It takes no memory.
+    pub fn as_slice(&self) -> &[usize]
+        ensures { result.now ≡ self.now }
     {
+        self.items.as_slice()
+    }
+}
+
+impl Copied for Args {
+    fn copy(&self, alloc: Global) -> Result<Args, NoMemory> {
         let mut copied = Args::new(alloc);
-        for i in 0..self.len() {
-            copied.push(*self.get(i))?;
+        for &item in self.as_slice() {
+            copied.push(item)?;
         }
         Ok(copied)
     }

@@ -2,9 +2,9 @@ ghost use Rattle.std.specs.Prelude.{◌≡◌, List, [], ◌∷◌, ◌++◌, �
 ghost use Rattle.flat_form.specs.Normals.{list_of};
 
 use crate::Basic;
+use lists::{Copied, NoMemory};
 use sqlite_items::Items;
 use std::alloc::Global;
-use tree_model::NoMemory;
 
 /// A negated conjunction. Over n variables it binds those from n to n + `bound`, and says that no values of these make
 /// the basic and each of the parts hold. The parts are over n + `bound` variables.
@@ -29,12 +29,10 @@ impl Normal {
     pub fn copy(&self, alloc: Global) -> Result<Normal, NoMemory>
         ensures { IfOk result (λ copy. copy ≡ self.now) }
     {
-        let basic = self.basic.copy(alloc)?;
-        let parts = self.parts.copy(alloc)?;
         Ok(Normal {
             bound: self.bound,
-            basic,
-            parts,
+            basic: self.basic.copy(alloc)?,
+            parts: self.parts.copy(alloc)?,
         })
     }
 }
@@ -54,10 +52,8 @@ impl Normals {
         ensures ok { OnOk result (list_of self.new ≡ list_of self.old ++ item ∷ []) }
         ensures err { OnErr result (list_of self.new ≡ list_of self.old) }
     {
-        match self.items.push(item) {
-            Ok(()) => Ok(()),
-            Err(_) => Err(NoMemory),
-        }
+        self.items.push(item)?;
+        Ok(())
     }
 
     /// How many items there are. It takes no memory.
@@ -82,10 +78,7 @@ impl Normals {
     {
         let mut items = Items::new(alloc);
         for item in self.items.as_slice() {
-            let copied = item.copy(alloc)?;
-            if items.push(copied).is_err() {
-                return Err(NoMemory);
-            }
+            items.push(item.copy(alloc)?)?;
         }
         Ok(Normals { items })
     }

@@ -31,23 +31,15 @@ fn ascends(b: &Basic) -> bool
 fn are_same(xs: &Args, ys: &Args) -> bool
     ensures { IsTrue result ↔ (xs.now ≡ ys.now) }
 {
-    if xs.len() != ys.len() {
-        return false;
-    }
-    for i in 0..xs.len() {
-        if *xs.get(i) != *ys.get(i) {
-            return false;
-        }
-    }
-    true
+    xs.as_slice() == ys.as_slice()
 }
 
 // Whether the variable is none of the arguments.
 fn is_none_of(v: usize, xs: &Args) -> bool
     ensures { IsTrue result ↔ All (λ x. ¬ (x ≡ v)) xs.now }
 {
-    for i in 0..xs.len() {
-        if *xs.get(i) == v {
+    for &x in xs.as_slice() {
+        if x == v {
             return false;
         }
     }
@@ -81,11 +73,11 @@ fn goes_with(a: &Flat, b: &Flat) -> bool
 }
 
 // Whether the atom goes with each atom of the list.
-fn goes_with_all(atom: &Flat, b: &Basic) -> bool
+fn goes_with_all(atom: &Flat, b: &[Flat]) -> bool
     ensures { IsTrue result ↔ All (GoesWith atom.now) b.now }
 {
-    for i in 0..b.len() {
-        if !goes_with(atom, b.get(i)) {
+    for other in b {
+        if !goes_with(atom, other) {
             return false;
         }
     }
@@ -93,11 +85,11 @@ fn goes_with_all(atom: &Flat, b: &Basic) -> bool
 }
 
 // Whether each atom goes with each.
-fn all_go_together(b: &Basic) -> bool
+fn all_go_together(b: &[Flat]) -> bool
     ensures { IsTrue result ↔ All (λ atom. All (GoesWith atom) b.now) b.now }
 {
-    for i in 0..b.len() {
-        if !goes_with_all(b.get(i), b) {
+    for atom in b {
+        if !goes_with_all(atom, b) {
             return false;
         }
     }
@@ -110,5 +102,5 @@ fn all_go_together(b: &Basic) -> bool
 pub fn is_solved(b: &Basic) -> bool
     ensures { IsTrue result ↔ IsSolved b.now }
 {
-    ascends(b) && all_go_together(b)
+    ascends(b) && all_go_together(b.as_slice())
 }

@@ -1,4 +1,5 @@
 use super::*;
+use lists::Copied;
 use std::alloc::Global;
 use std::test::*;
 use tree_model::{NoMemory, Symbol};

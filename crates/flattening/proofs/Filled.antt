@@ -5,7 +5,7 @@ use Rattle.tree_model.specs.declared.tree.Symbol.{Symbol}
 use Rattle.tree_model.specs.Signatures.{Signature, TreeOver, IsRoot, Alike}
 use Rattle.tree_model.specs.Trees.{at}
 use Rattle.tree_model.specs.Valuations.{Valuation, update}
-use Rattle.formula_ast.specs.Leaf.{leaf}
+use Rattle.tree_model.specs.OneNode.{constant}
 use Rattle.tree_facts.specs.Equations.{Equation, equals_variable, equals_term, IsApplied, HasDistinctLefts, SystemFits, left_of}
 use Rattle.tree_facts.proofs.Equations.{at_past, within_or_past}
 use Rattle.tree_facts.proofs.Existence.{has_solution}
@@ -34,13 +34,13 @@ run_at k (suc n) (suc i) w = run_at (k + 1) n i (omega arith) ∙ omega arith
 
 module _ {σ : Signature} where
   abbrev children : List (TreeOver σ) → Valuation σ
-  children trees zero = leaf σ
-  children trees (suc v) = get_or trees v (leaf σ)
+  children trees zero = constant σ 0
+  children trees (suc v) = get_or trees v (constant σ 0)
 
   -- there is a tree with this root and these children
   pub made_tree : (s : Symbol) (trees : List (TreeOver σ)) → IsRoot σ s (length trees)
       → (tree : TreeOver σ) × ((at tree.graph [] ≡ Some (s, length trees))
-      × ((i : ℕ) → i < length trees → (path : List ℕ) → at tree.graph (i ∷ path) ≡ at (get_or trees i (leaf σ)).graph path))
+      × ((i : ℕ) → i < length trees → (path : List ℕ) → at tree.graph (i ∷ path) ≡ at (get_or trees i (constant σ 0)).graph path))
   made_tree s trees root =
       let n = length trees in
       let run : List ℕ = run_from 1 n in
@@ -67,9 +67,9 @@ module _ {σ : Signature} where
       )
 
   applied_reads : (s : Symbol) (ts : PlainTerms) (e : Valuation σ) (trees : List (TreeOver σ)) (tree : TreeOver σ) → length trees ≡ count ts
-      → ((i : ℕ) → i < count ts → (path : List ℕ) → at (get_or trees i (leaf σ)).graph path ≡ nth_value e ts i path)
+      → ((i : ℕ) → i < count ts → (path : List ℕ) → at (get_or trees i (constant σ 0)).graph path ≡ nth_value e ts i path)
       → at tree.graph [] ≡ Some (s, length trees)
-      → ((i : ℕ) → i < length trees → (path : List ℕ) → at tree.graph (i ∷ path) ≡ at (get_or trees i (leaf σ)).graph path)
+      → ((i : ℕ) → i < length trees → (path : List ℕ) → at tree.graph (i ∷ path) ≡ at (get_or trees i (constant σ 0)).graph path)
       → Reads e (apply s ts) tree
   applied_reads s ts e trees tree as_many read root child [] = root ∙ ap (λ k. Some (s, k)) as_many
   applied_reads s ts e trees tree as_many read root child (i ∷ path) = elim (within_or_past i (count ts)) [
@@ -78,21 +78,21 @@ module _ {σ : Signature} where
   ]
 
   more_reads : (t : PlainTerm) (ts : PlainTerms) (e : Valuation σ) (tree : TreeOver σ) (trees : List (TreeOver σ)) → Reads e t tree
-      → ((i : ℕ) → i < count ts → (path : List ℕ) → at (get_or trees i (leaf σ)).graph path ≡ nth_value e ts i path)
-      → (i : ℕ) → i < count (one_more t ts) → (path : List ℕ) → at (get_or (tree ∷ trees) i (leaf σ)).graph path ≡ nth_value e (one_more t ts) i path
+      → ((i : ℕ) → i < count ts → (path : List ℕ) → at (get_or trees i (constant σ 0)).graph path ≡ nth_value e ts i path)
+      → (i : ℕ) → i < count (one_more t ts) → (path : List ℕ) → at (get_or (tree ∷ trees) i (constant σ 0)).graph path ≡ nth_value e (one_more t ts) i path
   more_reads t ts e tree trees reads read zero w path = reads path
   more_reads t ts e tree trees reads read (suc i) w path = read i (omega arith) path
 
   applied_tree : (s : Symbol) (ts : PlainTerms) (e : Valuation σ)
-      → (trees : List (TreeOver σ)) × ((length trees ≡ count ts) × ((i : ℕ) → i < count ts → (path : List ℕ) → at (get_or trees i (leaf σ)).graph path ≡ nth_value e ts i path))
+      → (trees : List (TreeOver σ)) × ((length trees ≡ count ts) × ((i : ℕ) → i < count ts → (path : List ℕ) → at (get_or trees i (constant σ 0)).graph path ≡ nth_value e ts i path))
       → IsRoot σ s (count ts) → (tree : TreeOver σ) × Reads e (apply s ts) tree
   applied_tree s ts e (trees, (as_many, read)) root =
       let made = made_tree s trees (rw as_many root) in (made.0, applied_reads s ts e trees made.0 as_many read made.1.0 made.1.1)
 
   more_trees : (t : PlainTerm) (ts : PlainTerms) (e : Valuation σ) → (tree : TreeOver σ) × Reads e t tree
-      → (trees : List (TreeOver σ)) × ((length trees ≡ count ts) × ((i : ℕ) → i < count ts → (path : List ℕ) → at (get_or trees i (leaf σ)).graph path ≡ nth_value e ts i path))
+      → (trees : List (TreeOver σ)) × ((length trees ≡ count ts) × ((i : ℕ) → i < count ts → (path : List ℕ) → at (get_or trees i (constant σ 0)).graph path ≡ nth_value e ts i path))
       → (trees : List (TreeOver σ)) × ((length trees ≡ count (one_more t ts))
-      × ((i : ℕ) → i < count (one_more t ts) → (path : List ℕ) → at (get_or trees i (leaf σ)).graph path ≡ nth_value e (one_more t ts) i path))
+      × ((i : ℕ) → i < count (one_more t ts) → (path : List ℕ) → at (get_or trees i (constant σ 0)).graph path ≡ nth_value e (one_more t ts) i path))
   more_trees t ts e (tree, reads) (trees, (as_many, read)) = (tree ∷ trees, (omega (arith, as_many), more_reads t ts e tree trees reads read))
 
   mutual
@@ -102,7 +102,7 @@ module _ {σ : Signature} where
     tree_of (apply s ts) e fits = applied_tree s ts e (trees_of ts e fits.1) fits.0
 
     trees_of : (ts : PlainTerms) (e : Valuation σ) → TermsFit σ ts
-        → (trees : List (TreeOver σ)) × ((length trees ≡ count ts) × ((i : ℕ) → i < count ts → (path : List ℕ) → at (get_or trees i (leaf σ)).graph path ≡ nth_value e ts i path))
+        → (trees : List (TreeOver σ)) × ((length trees ≡ count ts) × ((i : ℕ) → i < count ts → (path : List ℕ) → at (get_or trees i (constant σ 0)).graph path ≡ nth_value e ts i path))
     trees_of no_terms e fits = ([], (refl, λ i w path. absurd (omega arith)))
     trees_of (one_more t ts) e fits = more_trees t ts e (tree_of t e fits.0) (trees_of ts e fits.1)
 

@@ -1,6 +1,5 @@
 pub mod Collecting
 pub mod Forms
-pub mod Leaf
 pub mod Occurrences
 pub mod Satisfaction
 pub mod Stability

@@ -2,6 +2,7 @@
 use Rattle.std.specs.Prelude.{◌≡◌, ℕ, zero, suc, List, [], ◌∷◌, get_or, Option, MatchBool, nat_eq}
 use Rattle.classical.specs.Classical.{Either, Exists}
 use Rattle.tree_model.specs.declared.tree.Symbol.{Symbol}
+use Rattle.tree_model.specs.OneNode.{constant}
 use Rattle.tree_model.specs.Trees.{at, ReadsFinite}
 use Rattle.tree_model.specs.Signatures.{Signature, TreeOver}
 use Rattle.tree_model.specs.Valuations.{Valuation, update}
@@ -9,7 +10,6 @@ use Rattle.formula_ast.specs.declared.term.Term.{Term}
 use Rattle.formula_ast.specs.declared.pred.Pred.{Pred}
 use Rattle.formula_ast.specs.Terms.{reads}
 use Rattle.formula_ast.specs.Forms.{Form, form_of, always, never, equal, differ, finite, call, win, no, and, or, imp, iff, exists, forall}
-use Rattle.formula_ast.specs.Leaf.{leaf}
 
 -- what predicates mean: at which lists of trees the one at a place of the signature holds
 abbrev pub Relations : Signature → Type 1
@@ -59,9 +59,9 @@ module _ (σ : Signature) where
   Holds ρ (exists x f) e = Exists (λ (t : TreeOver σ). Holds ρ f (update e x t))
   Holds ρ (forall x f) e = (t : TreeOver σ) → Holds ρ f (update e x t)
 
-  -- the trees as values of the parameters, which are the first variables
+  -- the trees as values of the parameters, which are the first variables; the others are `$0`
   abbrev pub parameters : List (TreeOver σ) → Valuation σ
-  parameters trees v = get_or trees v (leaf σ)
+  parameters trees v = get_or trees v (constant σ 0)
 
   -- no predicate holds anywhere
   abbrev pub no_predicates : Relations σ

@@ -7,9 +7,10 @@ use Rattle.tree_model.specs.declared.tree.Node.{Node}
 use Rattle.tree_model.specs.declared.tree.Symbol.{Symbol}
 use Rattle.tree_model.specs.declared.tree.Symbol.TheVariants.{Named, Further}
 use Rattle.tree_model.specs.Graphs.{Graph}
+use Rattle.tree_model.specs.OneNode.{constant, loop}
 use Rattle.tree_model.specs.Signatures.{Signature}
 use Rattle.tree_model.specs.Trees.{at, read, label_at, child_of}
-use Rattle.tree_facts.specs.Indexes.{above_index, above_indexes, above_trees, constant, loop}
+use Rattle.tree_facts.specs.Indexes.{above_index, above_indexes, above_trees}
 use Rattle.tree_facts.specs.IndexLaws.{ReadIndexIsBelow, UnusedIndex, ConstantIsApplied, ConstantIsFinite, LoopIsApplied, LoopIsInfinite, ConstantsDiffer, HasSolutionOfConstants}
 use Rattle.tree_facts.proofs.Existence.{has_solution}
 use Rattle.tree_facts.proofs.Finite.{node_finite, own_subtree_infinite}

@@ -2,11 +2,12 @@
 use Rattle.std.specs.Prelude.{ℕ, ◌≡◌, ◌≤◌, List, [], ◌∷◌, Contains}
 use Rattle.tree_model.specs.declared.tree.Symbol.TheVariants.{Further}
 use Rattle.tree_model.specs.Graphs.{Graph}
+use Rattle.tree_model.specs.OneNode.{constant, loop}
 use Rattle.tree_model.specs.Signatures.{Signature, Alike}
 use Rattle.tree_model.specs.Trees.{IsFinite}
 use Rattle.tree_model.specs.Valuations.{Valuation}
 use Rattle.tree_facts.specs.Equations.{Equation, IsApplied, Solves, SystemFits, IsParameter, HasDistinctLefts}
-use Rattle.tree_facts.specs.Indexes.{ReadsIndex, above_indexes, above_trees, constant, loop}
+use Rattle.tree_facts.specs.Indexes.{ReadsIndex, above_indexes, above_trees}
 
 -- a tree reads no index at or above the bound of its nodes
 abbrev pub ReadIndexIsBelow : Type 0

@@ -1,6 +1,6 @@
 use Rattle.std.proofs.Common.{◌≡◌, ℕ, List, ◌<◌, ◌≤◌, ◌+◌, length, get_or, drop, refl, sym, subst, ◌∙◌, Some, None}
-use Rattle.std.specs.Prelude.{slice_get, slice_index, option_and_then, All}
-use Rattle.std.proofs.lemmas.Option.{slice_get_read, slice_get-get_or, slice_get_past}
+use Rattle.std.specs.Prelude.{slice_get, option_and_then, All}
+use Rattle.std.proofs.lemmas.Option.{slice_get_read, slice_get_past, slice_get_within, get_or_from_slice_get}
 use Rattle.std.proofs.lemmas.List.{at_drop_more, drop_all}
 use Rattle.tree_model.specs.declared.tree.Node.{Node}
 use Rattle.tree_model.specs.declared.tree.Symbol.{Symbol}
@@ -19,13 +19,13 @@ module _ (nodes : List Node) (root place : ℕ) (node : Node) (path : List ℕ) 
   pub at_some : (g : Graph) → record { nodes = nodes; root = root } ≡ g → length path ≤ k → Some (node.symbol, length node.children) ≡ at g path
   at_some g e w = rw (← e, ← same, drop_all k path w, slice_get_read nodes _ place node refl within looked) refl
 
-  pub goes_on : k < length path → get_or path k 0 < length node.children
-      → read nodes (slice_index node.children (get_or path k 0)) (drop (k + 1) path) ≡ read nodes root path
-  goes_on w b = sym (step w ∙ rw (slice_get-get_or node.children (get_or path k 0) 0 b) refl)
+  pub goes_on : (child : ℕ) → k < length path → slice_get node.children (get_or path k 0) ≡ Some child
+      → read nodes child (drop (k + 1) path) ≡ read nodes root path
+  goes_on child w got = sym (step w ∙ rw got refl)
 
 pub child_below : (n : ℕ) (nodes : List Node) (place : ℕ) (node : Node) → place < length nodes → node ≡ get_or nodes place node
-    → All (ChildrenBelow n) nodes → (i : ℕ) → i < length node.children → slice_index node.children i < n
-child_below n nodes place node within read all i w =
+    → All (ChildrenBelow n) nodes → (i child : ℕ) → slice_get node.children i ≡ Some child → child < n
+child_below n nodes place node within read all i child got =
     let P : Node → Type 0 = ChildrenBelow n in
     let h : ChildrenBelow n node = subst P (sym read) (all place node within) in
-    h i 0 w
+    subst (λ x. x < n) (get_or_from_slice_get node.children i child 0 got) (h i 0 (slice_get_within node.children i child got))

@@ -3,6 +3,7 @@ pub mod Bounding
 pub mod Comparing
 pub mod Graphs
 pub mod Laws
+pub mod OneNode
 pub mod Signatures
 pub mod Trees
 pub mod Valuations

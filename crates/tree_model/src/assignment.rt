@@ -4,6 +4,7 @@ ghost use Rattle.tree_model.specs.Graphs.{AreInRange, tree_of};
 
 use crate::tree::{all_below, first_stray};
 use crate::{NoMemory, Node, Places, Tree, TreeError};
+use lists::Copied;
 use std::alloc::Global;
 use std::marker::Model;
 
@@ -36,9 +37,7 @@ fn copy_nodes(alloc: Global, nodes: &[Node]) -> Result<Vec<Node>, NoMemory>
             symbol: node.symbol,
             children,
         };
-        if copied.push(node).is_err() {
-            return Err(NoMemory);
-        }
+        copied.push(node)?;
     }
     Ok(copied)
 }

@@ -35,15 +35,12 @@ impl Pairs {
         let Some(size) = width.checked_mul(height) else {
             return Err(NoMemory);
         };
-        match vec![in alloc; false; size] {
-            Ok(met) => Ok(Pairs {
-                items: Vec::new(alloc),
-                met,
-                height,
-                width,
-            }),
-            Err(_) => Err(NoMemory),
-        }
+        Ok(Pairs {
+            items: Vec::new(alloc),
+            met: vec![in alloc; false; size]?,
+            height,
+            width,
+        })
     }
 
     // How many pairs there are.
@@ -73,13 +70,9 @@ impl Pairs {
         if self.met[place] {
             return Ok(());
         }
-        match self.items.push((left, right)) {
-            Ok(()) => {
-                self.met[place] = true;
-                Ok(())
-            }
-            Err(_) => Err(NoMemory),
-        }
+        self.items.push((left, right))?;
+        self.met[place] = true;
+        Ok(())
     }
 
     // The pairs of children of equal numbers stand last, but for those that were met.
@@ -89,8 +82,8 @@ impl Pairs {
         requires right { All (λ child. child < self.old.width) rights.now }
         ensures { OnOk result (Adds self.old self.new (zip lefts.now rights.now)) }
     {
-        for i in 0..lefts.len() {
-            self.add(*lefts.get(i), *rights.get(i))?;
+        for (i, &left) in lefts.as_slice().iter().enumerate() {
+            self.add(left, *rights.get(i))?;
         }
         Ok(())
     }

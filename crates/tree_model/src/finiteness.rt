@@ -13,8 +13,8 @@ fn all_marked(places: &Places, marks: &[bool]) -> bool
     requires { All (λ place. place < length marks.now) places.now }
     ensures { MatchBool result (All (IsMarked marks.now) places.now) (HasUnmarked marks.now places.now) }
 {
-    for i in 0..places.len() {
-        if !marks[*places.get(i)] {
+    for &place in places.as_slice() {
+        if !marks[place] {
             return false;
         }
     }
@@ -29,8 +29,8 @@ fn mark_more(nodes: &[Node], marks: &mut [bool]) -> bool
     ensures more { MatchBool result (unmarked marks.new < unmarked marks.old) (IsAtRest nodes.now marks.new) }
 {
     let mut more = false;
-    for i in 0..nodes.len() {
-        if !marks[i] && all_marked(&nodes[i].children, marks) {
+    for (i, node) in nodes.iter().enumerate() {
+        if !marks[i] && all_marked(&node.children, marks) {
             marks[i] = true;
             more = true;
         }
@@ -45,9 +45,7 @@ pub fn is_finite(alloc: Global, a: &Tree) -> Result<bool, NoMemory>
     ensures { IfOk result (λ answer. IsTrue answer ↔ IsFinite a.now) }
 {
     let nodes = a.nodes();
-    let Ok(mut marks) = vec![in alloc; false; nodes.len()] else {
-        return Err(NoMemory);
-    };
+    let mut marks = vec![in alloc; false; nodes.len()]?;
     'walks: while mark_more(nodes, &mut marks) {}
     Ok(marks[a.root()])
 }

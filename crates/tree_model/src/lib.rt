@@ -6,7 +6,6 @@ mod comparison;
 mod finiteness;
 mod kind;
 mod laws;
-mod places;
 mod tree;
 
 pub use assignment::Assignment;
@@ -14,8 +13,8 @@ pub use comparison::same;
 pub use finiteness::is_finite;
 pub use kind::Kind;
 pub use laws::{sameness_laws, stability_laws};
-pub use places::{NoMemory, Places};
-pub use tree::{Node, Symbol, Tree, TreeError};
+pub use lists::NoMemory;
+pub use tree::{Node, Places, Symbol, Tree, TreeError};
 
 #[cfg(test)]
 mod tests;

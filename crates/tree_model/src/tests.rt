@@ -2,21 +2,6 @@ use super::*;
 use std::alloc::Global;
 use std::test::*;
 
-#[test]
-fn a_list_of_places_grows_and_is_copied(rt: HostRuntime) {
-    let mut places = Places::new(rt.alloc());
-    assert_eq!(rt; places.len(), 0);
-    assert_eq!(rt; places.push(7), Ok(()));
-    assert_eq!(rt; places.push(9), Ok(()));
-    let copy = places.copy(rt.alloc());
-    assert!(rt; copy.is_ok());
-    if let Ok(copy) = copy {
-        assert_eq!(rt; copy.len(), 2);
-        assert_eq!(rt; *copy.get(0), 7);
-        assert_eq!(rt; *copy.get(1), 9);
-    }
-}
-
 // A node with this symbol and these children.
 fn node(alloc: Global, symbol: Symbol, children: &[usize]) -> Result<Node, NoMemory> {
     let mut places = Places::new(alloc);

@@ -3,8 +3,11 @@ ghost use Rattle.tree_model.specs.Answers.{symbol_read, IsKept, IsRefused, IsFir
 ghost use Rattle.tree_model.specs.Graphs.{ChildrenBelow, IsInRange};
 ghost use Rattle.tree_model.specs.Trees.{at};
 
-use crate::Places;
+use lists::List;
 use std::marker::Model;
+
+/// A list of places of nodes, or of numbers of variables.
+pub type Places = List<usize>;
 
 /// What a node of a tree is labelled with.
 #[derive(Clone, Copy, Debug, PartialEq, Eq, Drop)]
@@ -53,8 +56,8 @@ pub enum TreeError {
 pub(crate) fn all_below(places: &Places, limit: usize) -> bool
     ensures { IsTrue result ↔ All (λ p. p < limit) places.now }
 {
-    for i in 0..places.len() {
-        if *places.get(i) >= limit {
+    for &place in places.as_slice() {
+        if place >= limit {
             return false;
         }
     }
@@ -65,8 +68,8 @@ pub(crate) fn all_below(places: &Places, limit: usize) -> bool
 pub(crate) fn first_stray(nodes: &[Node]) -> Option<usize>
     ensures { MatchOption result (All (ChildrenBelow (length nodes.now)) nodes.now) (λ i. IsFirstStray nodes.now i) }
 {
-    for i in 0..nodes.len() {
-        if !all_below(&nodes[i].children, nodes.len()) {
+    for (i, node) in nodes.iter().enumerate() {
+        if !all_below(&node.children, nodes.len()) {
             return Some(i);
         }
     }

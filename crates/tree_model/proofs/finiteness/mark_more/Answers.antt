@@ -9,12 +9,12 @@ loop-i-preserved c =
     let i = c.loop-i.i in
     elim c.if-not-marks-i.branch [
       | then-not-marks-i+then-all_marked w ↦ rw (w.marks-is, w.more-is)
-          (marks_one nodes _ _ _ i c.loop-i.invariant c.loop-i-test.true (omega arith) w.index-nodes-i.result w.index-nodes-i.is w.if-not-marks-i.true
-          (rw (← w.index-nodes-i.is) at w.if-all_marked.ensures))
+          (marks_one nodes _ _ _ i c.loop-i.invariant c.loop-i-test.true (omega arith) c.index-nodes-i.result c.index-nodes-i.is w.if-not-marks-i.true
+          w.if-all_marked.ensures)
       | else-not-marks-i w ↦ rw (w.marks-is, w.more-is) (elim w.else-not-marks-i.branch [
         | else-not-marks-i-via-then-not-marks-i+else-all_marked w' ↦
-            passed_open nodes _ _ _ i c.loop-i.invariant c.loop-i-test.true (omega arith) w'.index-nodes-i.result w'.index-nodes-i.is
-            (rw (← w'.index-nodes-i.is) at w'.if-all_marked.ensures)
+            passed_open nodes _ _ _ i c.loop-i.invariant c.loop-i-test.true (omega arith) c.index-nodes-i.result c.index-nodes-i.is
+            w'.if-all_marked.ensures
         | else-not-marks-i-via-else-not-marks-i w' ↦
             passed_marked nodes _ _ _ i c.loop-i.invariant c.loop-i-test.true (omega arith) w'.if-not-marks-i.false
       ])
