@@ -5,9 +5,10 @@ ghost use Rattle.solver_cli.specs.Language.{IsValid, IsUnsatisfiable};
 
 use flattening::{Solved, flatten};
 use formula_ast::{File, Statement};
+use lists::NoMemory;
 use normal_form::Engine;
 use std::alloc::Global;
-use tree_model::{NoMemory, Places};
+use tree_model::Places;
 
 /// What is answered of a statement.
 #[derive(Clone, Copy, Debug, PartialEq, Eq, Drop)]
