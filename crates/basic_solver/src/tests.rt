@@ -111,9 +111,9 @@ fn is_answer(answer: Asserted, letter: u8) -> bool {
 // Asserts an atom. Whether this came of it.
 fn answers(store: &mut Store, atom: &Flat, letter: u8) -> Result<bool, NoMemory>
     requires over { AtomOver 8 atom.now }
-    requires enough { 8 ≤ open_in store.old }
-    ensures enough { OnOk result (8 ≤ open_in store.new) }
-    ensures scopes { OnOk result (length store.new ≡ length store.old) }
+    requires enough { 8 ≤ open_in store.old.scopes }
+    ensures enough { OnOk result (8 ≤ open_in store.new.scopes) }
+    ensures scopes { OnOk result (length store.new.scopes ≡ length store.old.scopes) }
 {
     let answer = store.assert(atom)?;
     Ok(is_answer(answer, letter))
@@ -121,9 +121,9 @@ fn answers(store: &mut Store, atom: &Flat, letter: u8) -> Result<bool, NoMemory>
 
 // Asserts the atoms. Whether that came of it.
 fn all_answer(alloc: Global, store: &mut Store, text: &[u8]) -> Result<bool, NoMemory>
-    requires enough { 8 ≤ open_in store.old }
-    ensures enough { OnOk result (8 ≤ open_in store.new) }
-    ensures scopes { OnOk result (length store.new ≡ length store.old) }
+    requires enough { 8 ≤ open_in store.old.scopes }
+    ensures enough { OnOk result (8 ≤ open_in store.new.scopes) }
+    ensures scopes { OnOk result (length store.new.scopes ≡ length store.old.scopes) }
 {
     let mut as_expected = true;
     for i in 0..text.len() / 5 {
@@ -138,7 +138,7 @@ fn all_answer(alloc: Global, store: &mut Store, text: &[u8]) -> Result<bool, NoM
 
 // A store that was asserted the first atoms, and the further ones in a second scope, where this has the outcomes told.
 fn in_two_scopes(alloc: Global, lower: &[u8], top: &[u8]) -> Result<Option<Store>, NoMemory>
-    ensures { IfOk result (λ found. IfSome found (λ store. 1 < length store)) }
+    ensures { IfOk result (λ found. IfSome found (λ store. 1 < length store.scopes)) }
 {
     let mut store = Store::new(alloc, 8)?;
     if !all_answer(alloc, &mut store, lower)? {

@@ -231,7 +231,7 @@ fn a_formula_may_use_names_past_the_limits_of_files(rt: HostRuntime) -> Result<(
 }
 
 #[test]
-fn files_of_equations_are_read(rt: HostRuntime) -> Result<(), Fail> {
+fn files_of_closed_questions_are_read(rt: HostRuntime) -> Result<(), Fail> {
     for (text, file) in [
         ("", ""),
         (" \t\r\n% solve\n% é", ""),
@@ -242,6 +242,10 @@ fn files_of_equations_are_read(rt: HostRuntime) -> Result<(), Fail> {
         (
             "%f\nsymbol%g\nf/1.solve exists X_1:(X_1=f(X_1)&X_1=X_1).% the end",
             "Symbol f/1. [X_1 ] exists 0 (0 = #0(0) & 0 = 0)",
+        ),
+        (
+            "solve ((true)). solve exists X: ~forall Y: (X != Y -> finite(X) | false <-> true).",
+            "[] true[X Y ] exists 0 ~forall 1 ((0 != 1 -> (finite 0 | false)) <-> true)",
         ),
     ] {
         let read = file_read_as(rt.alloc(), text)?;
@@ -291,15 +295,12 @@ byte 24: Limit << solve $0(X,X,X,X,X,X,X,X,X) = X.
 byte 34: NotBuilt << symbol f/00000000000000000000008. solve X = X.
 byte 12: NotBuilt << symbol a/0. pred p(X) := X = a.
 byte 39: Ended << solve exists X: X = X. solve true. pred
-byte 0: NotBuilt << solve exists X: ((X = X)).
-byte 0: NotBuilt << solve exists X: exists Y: X = Y.
 byte 0: NotBuilt << solve exists X: X = Y.
-byte 0: NotBuilt << solve exists X: (X = X & (X = X)).
-byte 0: NotBuilt << solve exists X: X != X.
-byte 0: NotBuilt << solve forall X: X = X.
-byte 0: NotBuilt << solve (exists X: X = X).
-byte 0: NotBuilt << solve exists X: X = X & true.
-byte 0: NotBuilt << solve exists X: (X = X | X = X).
+byte 0: NotBuilt << solve exists X: X = X & finite(X).
+byte 0: NotBuilt << solve ~finite($1(X)).
+byte 0: NotBuilt << pred p := true. solve p. solve X = X.
+byte 12: NotBuilt << solve true. solve X = X. pred p := true.
+byte 23: NotBuilt << solve forall X: X = X. pred p := true. solve X = X.
 byte 12: Byte << solve true. #
 byte 18: Ended << solve true. symbol
 byte 15: Ended << solve X = X % c

@@ -1,4 +1,5 @@
 // Runs over memory.
+mod closed;
 mod faults;
 mod fronts;
 mod limits;
@@ -135,6 +136,11 @@ const QUESTIONS: &str = "\
 1 false << symbol f/1, a/0, b/0. solve exists X Y: (f(X) = f(Y) & X = a & Y = b).
 1 false << symbol f/1, a/0. solve exists X Y: (X = f(Y) & Y = f(X) & f(a) = X).
 1 true; 2 true << symbol f/1. solve exists X: X = f(X). solve exists X: X = X.
+1 false << symbol f/1. solve exists X: (X = f(X) & finite(X)).
+1 true << symbol f/1. solve forall X Y: (X = f(X) & Y = f(Y) -> X = Y).
+1 true << symbol f/1. solve forall X: (X = f(f(X)) -> X = f(X)).
+1 false << symbol a/0. solve forall X: X = a.
+1 true << symbol a/0, b/0. solve exists X: (X = a & exists X: X = b).
 1 false << solve exists X: $0 = $0(X).
 1 true; 2 true << solve exists X: X = $7(X). solve exists X Y: $1(X) = $1(Y).
 1 true; 2 true; 3 false << solve exists X: X = $0. symbol f/1. solve exists X: X = f(X). symbol a/0. solve exists X: f(X) = a.";

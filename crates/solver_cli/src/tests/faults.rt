@@ -116,19 +116,12 @@ fn the_grammar_counts_before_declarations(rt: HostRuntime) -> Result<(), Fail> {
 const NOT_ANSWERED: &str = "\
 fault 12 notbuilt << symbol f/1. solve finite(X).
 fault 0 notbuilt << solve exists X: X = Y.
+fault 0 notbuilt << solve exists X: X = X & finite(X).
 fault 12 notbuilt << symbol a/0. pred p(X) := X = a.
-fault 0 notbuilt << solve true.
-fault 0 notbuilt << solve exists X: ((X = X)).
-fault 0 notbuilt << solve exists X: exists Y: X = Y.
-fault 0 notbuilt << solve (exists X: X = X).
-fault 0 notbuilt << solve exists X: X = X & X = X.
-fault 0 notbuilt << solve forall X: X = X.
-fault 0 notbuilt << solve exists X: X != X.
-fault 0 notbuilt << solve exists X: (X = X | X = X).
-fault 0 notbuilt << solve exists X: (X = X & (X = X)).
-fault 0 notbuilt << pred p(X) := exists X Y: X = Y.
+fault 0 notbuilt << pred p := true. solve p.
 fault 0 notbuilt << pred p(A, B, C, D, E, F, G, H, I) := true.
-fault 23 notbuilt << solve exists X: X = X. solve true. solve finite(X).
+fault 53 notbuilt << solve true. solve forall X: finite(X). solve ~false. pred p := true. solve X = X.
+fault 35 notbuilt << solve exists X: X = X. solve true. solve finite(X).
 fault 12 byte << solve true. #
 fault 37 unknown << solve finite(X). solve exists X: X = q.
 fault 32 twice << pred p := true. solve p. symbol p/0.
@@ -142,7 +135,9 @@ fn what_is_not_answered_yet(rt: HostRuntime) -> Result<(), Fail> {
 const ANSWERED: &str = "\
 << % c\r#
 << % ! $ - <
-1 true << solve exists X: (X = X).
+1 true << solve true.
+1 true << solve exists X: ((X = X)).
+1 true << solve (exists X: exists Y: X = Y).
 1 true << solve exists X X: X = X.
 1 true << solve exists X: $007 = $7.
 1 false << solve exists X: $7 = $8.

@@ -31,13 +31,14 @@ fn expect_long_rows(rt: &impl Abort, alloc: Global, table: &str) -> Result<(), F
 }
 
 const NESTINGS: &str = "\
-fault 0 notbuilt << 1*solve #200*~#1*true.
+1 true << 1*solve #200*~#1*true.
 fault 206 limit << 1*solve #201*~#1*true.
-fault 0 notbuilt << 1*solve #200*(#1*true#200*)#1*.
+1 true << 1*solve #200*(#1*true#200*)#1*.
 fault 206 limit << 1*solve #201*(#1*true#201*)#1*.
-fault 0 notbuilt << 1*solve #200*exists X: #1*true.
+1 true << 1*solve #200*exists X: #1*true.
+1 true << 1*solve #200*forall X: #1*true.
 fault 2006 limit << 1*solve #201*forall X: #1*true.
-fault 0 notbuilt << 1*solve #200*true -> #1*true.
+1 true << 1*solve #200*true -> #1*true.
 fault 1611 limit << 1*solve #201*true -> #1*true.
 fault 1620 sort << 1*symbol a/0. solve #200*true -> #1*a -> true.
 1 true << 1*symbol f/1. solve exists X: X = #199*f(#1*X#199*)#1*.
@@ -45,8 +46,8 @@ fault 431 limit << 1*symbol f/1. solve exists X: X = #200*f(#1*X#200*)#1*.
 1 true << 1*symbol f/1. solve exists X: (X = #198*f(#1*X#198*)#1*).
 fault 430 limit << 1*symbol f/1. solve exists X: (X = #199*f(#1*X#199*)#1*).
 // depth counts, and no total
-fault 0 notbuilt << 1*solve (true)#299* & (true)#1*.
-fault 0 notbuilt << 1*solve (true#199* -> true#1*) & (true#199* -> true#1*).
+1 true << 1*solve (true)#299* & (true)#1*.
+1 true << 1*solve (true#199* -> true#1*) & (true#199* -> true#1*).
 fault 3205 limit << 1*solve (true#199* -> true#1*) & (true#200* -> true#1*).";
 
 #[test]
@@ -55,7 +56,8 @@ fn nestings(rt: HostRuntime) -> Result<(), Fail> {
 }
 
 const JOINTS: &str = "\
-fault 0 notbuilt << 1*solve true#1000* & true#1*.
+1 true << 1*solve true#1000* & true#1*.
+1 false << 1*solve false#1000* | false#1*.
 fault 7011 limit << 1*solve true#1001* & true#1*.
 // parameters are none of them
 fault 0 notbuilt << 1*pred p(X, Y) := true#1000* & true#1*.
