@@ -94,7 +94,10 @@ fn formula(alloc: Global, code: &str) -> Result<Formula, Fail> {
         let formula = next(alloc, &mut stack, byte)?;
         stack.push(formula)?;
     }
-    stack.pop().ok_or(Fail::from(NoMemory))
+    match stack.pop() {
+        Some(f) => Ok(f),
+        None => Err(Fail::from(NoMemory)),
+    }
 }
 
 // What is printed for the formula in postfix notation, over the variables X and Y.
