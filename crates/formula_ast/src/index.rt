@@ -19,10 +19,8 @@ fn of_symbol(symbol: Symbol, met: &mut Vec<u64>) -> Result<(), NoMemory>
     if met.contains(&k) {
         return Ok(());
     }
-    match met.push(k) {
-        Ok(()) => Ok(()),
-        Err(_) => Err(NoMemory),
-    }
+    met.push(k)?;
+    Ok(())
 }
 
 // Adds the indexes of a term.
