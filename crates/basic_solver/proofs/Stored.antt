@@ -4,7 +4,7 @@ use Rattle.std.specs.Prelude.{All, ◌↔◌, IfOk}
 use Rattle.std.proofs.lemmas.List.{take_all, length-append, get_or_append_left, get_or-append-add}
 use Rattle.tree_model.specs.Signatures.{Signature}
 use Rattle.flat_form.specs.declared.atom.Flat.{Flat}
-use Rattle.flat_form.specs.Meanings.{BasicHolds}
+use Rattle.flat_form.specs.Meanings.{BasicHolds, HasNone}
 use Rattle.flat_form.specs.Fitting.{AtomFits, BasicFits}
 use Rattle.flat_form.specs.Numbering.{AtomOver, BasicOver}
 use Rattle.flat_form.specs.Classes.{Unsolvable}
@@ -16,7 +16,7 @@ use Rattle.flat_facts.proofs.Stores.{nothing_to_store, added_means_more}
 use Rattle.basic_solver.specs.declared.scope.Scope.{Scope}
 use Rattle.basic_solver.specs.declared.scope.Asserted.{Asserted}
 use Rattle.basic_solver.specs.declared.scope.Asserted.TheVariants.{Clash, Kept}
-use Rattle.basic_solver.specs.Stores.{atoms_of, open_in, below, top_of, with_atom, IsStore, HasNone, IsAnswer, IsFormOf, MeansAll, IsExtraOf, MeansTop, IsEmptyWhereImplied, IsVerdict, SaysMore, IsFormFor, IsExtraFor}
+use Rattle.basic_solver.specs.Stores.{atoms_of, open_in, below, top_of, with_atom, IsStore, IsAnswer, IsFormOf, MeansAll, IsExtraOf, MeansTop, IsEmptyWhereImplied, IsVerdict, SaysMore, IsFormFor, IsExtraFor}
 use Rattle.basic_solver.proofs.Storing.{basic_wider, over_all, parts, open_with, length_with}
 use Rattle.basic_solver.proofs.Telling.{one_over}
 

@@ -106,6 +106,12 @@ length_with [] a = refl
 length_with (x ∷ []) a = refl
 length_with (x ∷ y ∷ rest) a = ap suc (length_with (y ∷ rest) a)
 
+pub below_with : (scopes : List Scope) (a : Flat) → below (with_atom a scopes) ≡ below scopes
+below_with [] a = refl
+below_with (x ∷ []) a = refl
+below_with (x ∷ y ∷ []) a = refl
+below_with (x ∷ y ∷ z ∷ rest) a = ap (λ w. x ∷ w) (below_with (y ∷ z ∷ rest) a)
+
 pub over_with : (n : ℕ) (scopes : List Scope) (a : Flat) → AreOver n scopes → AtomOver (n + open_in scopes) a → AreOver n (with_atom a scopes)
 over_with n [] a o b = tt
 over_with n (x ∷ []) a o b = (

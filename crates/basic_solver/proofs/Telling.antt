@@ -8,6 +8,7 @@ use Rattle.tree_model.specs.Signatures.{Signature}
 use Rattle.flat_form.specs.declared.atom.Flat.{Flat}
 use Rattle.flat_form.specs.Fitting.{AtomFits, BasicFits}
 use Rattle.flat_form.specs.Numbering.{AtomOver, BasicOver}
+use Rattle.flat_form.specs.Meanings.{HasNone}
 use Rattle.flat_form.specs.Classes.{Unsolvable}
 use Rattle.flat_form.specs.Solved.{IsSolved}
 use Rattle.flat_form.specs.Added.{IsSolvedForm}
@@ -19,7 +20,7 @@ use Rattle.flat_facts.proofs.Solutions.{solved_form_means}
 use Rattle.flat_facts.proofs.Stores.{nothing_to_store}
 use Rattle.basic_solver.specs.declared.scope.Scope.{Scope}
 use Rattle.basic_solver.specs.Outcomes.{IsOutcome}
-use Rattle.basic_solver.specs.Stores.{atoms_of, with_atom, HasNone, Implies, IsVerdict, SaysMore, IsFormFor, IsExtraFor}
+use Rattle.basic_solver.specs.Stores.{atoms_of, with_atom, Implies, IsVerdict, SaysMore, IsFormFor, IsExtraFor}
 use Rattle.basic_solver.proofs.Storing.{atoms_push}
 
 -- the empty conjunction is solved
@@ -82,6 +83,11 @@ more_none count atoms form atom f none = λ solvable σ fits.
 
 pub extra_some : (count : ℕ) (lower top form extra : List Flat) → IsFormFor count lower form → IsOutcome form (form ++ top) (Some extra) → IsExtraFor lower top extra
 extra_some count lower top form extra f added = λ σ fits solvable. (form, f.form (solved_together σ lower top fits solvable), added)
+
+-- it is over the variables of both
+pub extra_over : (count : ℕ) (lower top form extra : List Flat) → IsFormFor count lower form → BasicOver count top → IsOutcome form (form ++ top) (Some extra)
+    → BasicOver count extra
+extra_over count lower top form extra f over added = added_over count form (form ++ top) extra (All-append (AtomOver count) form top f.over over) added
 
 pub extra_none : (count : ℕ) (lower top form extra : List Flat) → IsFormFor count lower form → IsOutcome form (form ++ top) None → IsExtraFor lower top extra
 extra_none count lower top form extra f none = λ σ fits solvable.

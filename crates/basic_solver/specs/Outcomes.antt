@@ -1,11 +1,10 @@
 -- What the solver answers: an atom for each variable, the atoms that are added, or that there is no solution.
 use Rattle.std.specs.Prelude.{◌≡◌, ℕ, ◌<◌, Bool, true, false, List, [], ◌∷◌, ◌++◌, length, map, slice_index_or, slice_set, Option, Some, None, All, Contains, ◌↔◌}
 use Rattle.tree_model.specs.declared.tree.Symbol.{Symbol}
-use Rattle.tree_model.specs.Signatures.{Signature}
-use Rattle.tree_model.specs.Valuations.{Valuation}
 use Rattle.flat_form.specs.declared.atom.Flat.{Flat}
 use Rattle.flat_form.specs.declared.atom.Flat.TheVariants.{VarVar, VarTerm, Finite}
-use Rattle.flat_form.specs.Meanings.{BasicHolds}
+use Rattle.flat_form.specs.Classes.{Class}
+use Rattle.flat_form.specs.Meanings.{HasNone}
 use Rattle.flat_form.specs.Numbering.{BasicOver}
 use Rattle.flat_form.specs.Solved.{variable_of, Ascends, HasTerm, IsDirect}
 use Rattle.flat_form.specs.Added.{Adds, IsAdded}
@@ -86,14 +85,14 @@ abbrev pub with_found : List Flat → Option Flat → List Flat
 with_found lines None = lines
 with_found lines (Some atom) = lines ++ atom ∷ []
 
--- the atoms have no solution, over any signature
-abbrev pub HasNoSolution : List Flat → Type 0
-HasNoSolution atoms = (σ : Signature) (e : Valuation σ) → ¬ BasicHolds e atoms
-
 -- what the atoms add to the base, or that they have no solution
 abbrev pub IsOutcome : List Flat → List Flat → Option (List Flat) → Type 0
-IsOutcome base atoms None = HasNoSolution atoms
+IsOutcome base atoms None = HasNone atoms
 IsOutcome base atoms (Some added) = IsAdded base atoms added
+
+-- numbers for n variables, the same for two exactly where they are in one class
+abbrev pub AreClassNames : ℕ → List Flat → List ℕ → Type 0
+AreClassNames n atoms names = (length names ≡ n) × ((u v : ℕ) → Class atoms u v ↔ name_in names u ≡ name_in names v)
 
 -- the atoms that are added for the variables below n, in ascending order
 pub record IsListed (n : ℕ) (base atoms lines : List Flat) : Type 0 where

@@ -4,7 +4,7 @@ use Rattle.classical.specs.Classical.{Exists}
 use Rattle.tree_model.specs.Signatures.{Signature}
 use Rattle.tree_model.specs.Valuations.{Valuation}
 use Rattle.flat_form.specs.declared.atom.Flat.{Flat}
-use Rattle.flat_form.specs.Meanings.{AtomHolds, BasicHolds}
+use Rattle.flat_form.specs.Meanings.{AtomHolds, BasicHolds, HasNone}
 use Rattle.flat_form.specs.Fitting.{BasicFits}
 use Rattle.flat_form.specs.Numbering.{BasicOver}
 use Rattle.flat_form.specs.Classes.{Unsolvable}
@@ -23,6 +23,10 @@ atoms_of (scope ∷ rest) = scope.atoms ++ atoms_of rest
 abbrev pub open_in : List Scope → ℕ
 open_in [] = 0
 open_in (scope ∷ rest) = scope.variables + open_in rest
+
+-- what a store holds
+pub record Stored : Type 0 where
+  pub scopes : List Scope
 
 -- the scopes below the top one
 abbrev pub below : List Scope → List Scope
@@ -57,10 +61,6 @@ pub record IsStore (count : ℕ) (scopes : List Scope) : Type 0 where
 -- the atoms have a solution, over each signature that their symbols fit
 abbrev pub HasSolution : List Flat → Type 0
 HasSolution atoms = (σ : Signature) → BasicFits σ atoms → Exists (λ (e : Valuation σ). BasicHolds e atoms)
-
--- the atoms have none, over any signature
-abbrev pub HasNone : List Flat → Type 0
-HasNone atoms = (σ : Signature) (e : Valuation σ) → ¬ BasicHolds e atoms
 
 -- each solution of the atoms satisfies the further one, over a signature
 abbrev pub Implies : Signature → List Flat → Flat → Type 0
@@ -99,6 +99,14 @@ abbrev pub IsEmptyWhereImplied : List Scope → List Flat → Type 0
 IsEmptyWhereImplied scopes extra =
     (σ : Signature) → BasicFits σ (atoms_of scopes)
     → extra ≡ [] ↔ ((e : Valuation σ) → BasicHolds e (atoms_of (below scopes)) → BasicHolds e (top_of scopes))
+
+-- a scope that is opened and given up leaves the scopes as they were
+abbrev pub PopUndoesPush : Type 0
+PopUndoesPush = (scopes : List Scope) (scope : Scope) → below (scopes ++ scope ∷ []) ≡ scopes
+
+-- whatever was asserted in it
+abbrev pub PopUndoesAssert : Type 0
+PopUndoesAssert = (scopes : List Scope) (atom : Flat) → below (with_atom atom scopes) ≡ below scopes
 
 -- the atoms can be solved, or they have no solution
 abbrev pub IsVerdict : List Flat → Bool → Type 0

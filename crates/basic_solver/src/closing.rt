@@ -1,5 +1,6 @@
 //! The classes of atoms: names that follow every atom, so long as no two terms clash.
-ghost use Rattle.std.specs.Prelude.{◌≡◌, ℕ, ◌<◌, List, length, slice_index, IfOk, MatchBool, All, Contains};
+ghost use Rattle.std.specs.Prelude.{◌≡◌, ℕ, ◌<◌, List, length, slice_index, IfOk, MatchBool, MatchOption, All, Contains};
+ghost use Rattle.flat_form.specs.Meanings.{HasNone};
 ghost use Rattle.flat_form.specs.declared.atom.Flat.{Flat};
 ghost use Rattle.flat_form.specs.Numbering.{AtomOver, BasicOver};
 ghost use Rattle.flat_facts.specs.Names.{IsClosed};
@@ -8,9 +9,11 @@ ghost use Rattle.basic_solver.specs.Flags.{AllAgree};
 ghost use Rattle.basic_solver.specs.Terms.{HavePlaces, FollowsNoted, IsServed};
 ghost use Rattle.basic_solver.specs.Twins.{FollowTwins};
 ghost use Rattle.basic_solver.specs.Rounds.{IsRound};
+ghost use Rattle.basic_solver.specs.Outcomes.{AreClassNames};
 
+use crate::bases::leads_of;
 use crate::clashing::all_agree;
-use crate::names::{are_alike, join, join_all};
+use crate::names::{apart, are_alike, join, join_all};
 use crate::terms::{term_of, terms_of};
 use crate::twins::twins_of;
 use flat_form::{Basic, Flat};
@@ -213,4 +216,19 @@ pub(crate) fn close(
             Round::Stays => return Ok(true),
         }
     }
+}
+
+/// For each variable below `count` a number, the same for two variables exactly where the atoms put them in one class.
+/// None where two terms of one class clash, so that the atoms have no solution.
+pub fn classes(alloc: Global, count: usize, atoms: &Basic) -> Result<Option<Vec<usize>>, NoMemory>
+    requires { BasicOver count atoms.now }
+    ensures { IfOk result (λ found. MatchOption found (HasNone atoms.now) (λ names. AreClassNames count atoms.now names.items)) }
+{
+    let none = Basic::new(alloc);
+    let leads = leads_of(alloc, count, &none)?;
+    let mut names = apart(alloc, count)?;
+    if !close(alloc, leads.as_slice(), &mut names, atoms)? {
+        return Ok(None);
+    }
+    Ok(Some(names))
 }

@@ -5,6 +5,7 @@ mod bases;
 mod clashing;
 mod closing;
 mod grounding;
+mod laws;
 mod listing;
 mod names;
 mod reaching;
@@ -14,6 +15,9 @@ mod store;
 mod terms;
 mod twins;
 
+pub use closing::classes;
+pub use laws::pop_laws;
+pub use listing::added;
 pub use scope::{Asserted, Scope};
 pub use store::Store;
 

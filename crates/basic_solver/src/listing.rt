@@ -178,8 +178,8 @@ fn are_finite(names: &[usize], done: &[bool], atoms: &Basic) -> bool
     true
 }
 
-// What the atoms add to the base, which is among them. None where they have no solution.
-pub(crate) fn added(
+/// What the atoms add to the base, which is among them. None where they have no solution.
+pub fn added(
     alloc: Global,
     count: usize,
     base: &Basic,

@@ -101,7 +101,8 @@ pub(crate) fn extra_of(
 ) -> Result<Basic, NoMemory>
     requires lower { BasicOver count lower.now }
     requires top { BasicOver count top.now }
-    ensures { IfOk result (IsExtraFor lower.now top.now) }
+    ensures over { IfOk result (BasicOver count) }
+    ensures extra { IfOk result (IsExtraFor lower.now top.now) }
 {
     let form = solved(alloc, count, lower)?;
     let mut all = form.copy(alloc)?;

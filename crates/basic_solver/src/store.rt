@@ -1,6 +1,7 @@
 //! The store: atoms in scopes.
 ghost use Rattle.std.specs.Prelude.{◌≡◌, ◌<◌, [], ◌∷◌, ◌++◌, length, IfOk, OnOk, OnErr};
-ghost use Rattle.flat_form.specs.Numbering.{AtomOver};
+ghost use Rattle.flat_form.specs.Numbering.{AtomOver, BasicOver};
+ghost use Rattle.flat_form.specs.Solved.{IsSolved};
 
 use crate::solving::{appended, extra_of, gather, is_solvable, keep, says_more, solved};
 use crate::{Asserted, Scope};
@@ -18,13 +19,11 @@ pub struct Store {
 }
 
 impl Model for Store {
-    ghost use Rattle.std.specs.Prelude.{List};
-    ghost use Rattle.basic_solver.specs.declared.scope.Scope.{Scope};
-    ghost use Rattle.basic_solver.specs.Stores.{IsStore};
+    ghost use Rattle.basic_solver.specs.Stores.{Stored, IsStore};
 
-    ghost Value = { List Scope };
+    ghost Value = { Stored };
 
-    ghost view = { λ s. s.scopes.items };
+    ghost view = { λ s. record { scopes = s.scopes.items } };
 
     ghost invariant = { λ s. IsStore s.count s.scopes.items };
 }
@@ -34,7 +33,7 @@ impl Store {
 
     /// One scope with so many variables and no atoms.
     pub fn new(alloc: Global, variables: usize) -> Result<Store, NoMemory>
-        ensures { IfOk result (λ store. store ≡ record { variables = variables; atoms = [] } ∷ []) }
+        ensures { IfOk result (λ store. store.scopes ≡ record { variables = variables; atoms = [] } ∷ []) }
     {
         let mut scopes = Vec::new(alloc);
         let atoms = Basic::new(alloc);
@@ -50,7 +49,7 @@ impl Store {
 
     /// Opens a scope with so many variables, which have the next numbers.
     pub fn push(&mut self, variables: usize) -> Result<(), NoMemory>
-        ensures ok { OnOk result (self.new ≡ self.old ++ record { variables = variables; atoms = [] } ∷ []) }
+        ensures ok { OnOk result (self.new.scopes ≡ self.old.scopes ++ record { variables = variables; atoms = [] } ∷ []) }
         ensures err { OnErr result (self.new ≡ self.old) }
     {
         let Some(count) = self.count.checked_add(variables) else {
@@ -68,8 +67,8 @@ impl Store {
 
     /// Gives up the top scope. It takes no memory.
     pub fn pop(&mut self)
-        requires { 1 < length self.old }
-        ensures { self.new ≡ below self.old }
+        requires { 1 < length self.old.scopes }
+        ensures { self.new.scopes ≡ below self.old.scopes }
     {
         if let Some(scope) = self.scopes.pop() {
             self.count -= scope.variables;
@@ -79,8 +78,8 @@ impl Store {
     /// Puts the atom last into the top scope, unless the atoms have no solution with it. It was added, unless the atoms
     /// before imply it.
     pub fn assert(&mut self, atom: &Flat) -> Result<Asserted, NoMemory>
-        requires { AtomOver (open_in self.old) atom.now }
-        ensures answer { IfOk result (IsAnswer self.old self.new atom.now) }
+        requires { AtomOver (open_in self.old.scopes) atom.now }
+        ensures answer { IfOk result (IsAnswer self.old.scopes self.new.scopes atom.now) }
         ensures err { OnErr result (self.new ≡ self.old) }
     {
         let alloc = self.alloc;
@@ -95,10 +94,12 @@ impl Store {
         Ok(Asserted::Kept { added })
     }
 
-    /// The solved form of all atoms. It has their solutions.
+    /// The solved form of all atoms. It has their solutions, and over any symbols the shape of a solved form.
     pub fn basic(&self, alloc: Global) -> Result<Basic, NoMemory>
-        ensures form { IfOk result (IsFormOf self.now) }
-        ensures means { IfOk result (MeansAll self.now) }
+        ensures shape { IfOk result IsSolved }
+        ensures over { IfOk result (BasicOver (open_in self.now.scopes)) }
+        ensures form { IfOk result (IsFormOf self.now.scopes) }
+        ensures means { IfOk result (MeansAll self.now.scopes) }
     {
         let atoms = gather(alloc, self.scopes.as_slice(), self.scopes.len())?;
         solved(alloc, self.count, &atoms)
@@ -107,10 +108,11 @@ impl Store {
     /// What the top scope adds to the solved form of the atoms of the scopes below it. It is empty exactly where these
     /// imply the top scope.
     pub fn extra(&self, alloc: Global) -> Result<Basic, NoMemory>
-        requires { 1 < length self.now }
-        ensures extra { IfOk result (IsExtraOf self.now) }
-        ensures means { IfOk result (MeansTop self.now) }
-        ensures empty { IfOk result (IsEmptyWhereImplied self.now) }
+        requires { 1 < length self.now.scopes }
+        ensures over { IfOk result (BasicOver (open_in self.now.scopes)) }
+        ensures extra { IfOk result (IsExtraOf self.now.scopes) }
+        ensures means { IfOk result (MeansTop self.now.scopes) }
+        ensures empty { IfOk result (IsEmptyWhereImplied self.now.scopes) }
     {
         let top = self.scopes.len() - 1;
         let lower = gather(alloc, self.scopes.as_slice(), top)?;

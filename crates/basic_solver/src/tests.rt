@@ -2,13 +2,11 @@ ghost use Rattle.std.specs.Prelude.{◌≡◌, ◌/◌, ◌<◌, ◌≤◌, leng
 ghost use Rattle.flat_form.specs.Numbering.{AtomOver};
 ghost use Rattle.basic_solver.specs.Stores.{open_in};
 
-mod asserted;
-mod outcomes;
+mod cases;
 
 use super::*;
-use asserted::{BASES, COUNT, MORES};
+use cases::CASES;
 use flat_form::{Args, Basic, Flat};
-use outcomes::{EXTRAS, FORMS};
 use std::alloc::Global;
 use std::test::*;
 use tree_model::{NoMemory, Symbol};
@@ -113,9 +111,9 @@ fn is_answer(answer: Asserted, letter: u8) -> bool {
 // Asserts an atom. Whether this came of it.
 fn answers(store: &mut Store, atom: &Flat, letter: u8) -> Result<bool, NoMemory>
     requires over { AtomOver 8 atom.now }
-    requires enough { 8 ≤ open_in store.old }
-    ensures enough { OnOk result (8 ≤ open_in store.new) }
-    ensures scopes { OnOk result (length store.new ≡ length store.old) }
+    requires enough { 8 ≤ open_in store.old.scopes }
+    ensures enough { OnOk result (8 ≤ open_in store.new.scopes) }
+    ensures scopes { OnOk result (length store.new.scopes ≡ length store.old.scopes) }
 {
     let answer = store.assert(atom)?;
     Ok(is_answer(answer, letter))
@@ -123,9 +121,9 @@ fn answers(store: &mut Store, atom: &Flat, letter: u8) -> Result<bool, NoMemory>
 
 // Asserts the atoms. Whether that came of it.
 fn all_answer(alloc: Global, store: &mut Store, text: &[u8]) -> Result<bool, NoMemory>
-    requires enough { 8 ≤ open_in store.old }
-    ensures enough { OnOk result (8 ≤ open_in store.new) }
-    ensures scopes { OnOk result (length store.new ≡ length store.old) }
+    requires enough { 8 ≤ open_in store.old.scopes }
+    ensures enough { OnOk result (8 ≤ open_in store.new.scopes) }
+    ensures scopes { OnOk result (length store.new.scopes ≡ length store.old.scopes) }
 {
     let mut as_expected = true;
     for i in 0..text.len() / 5 {
@@ -140,7 +138,7 @@ fn all_answer(alloc: Global, store: &mut Store, text: &[u8]) -> Result<bool, NoM
 
 // A store that was asserted the first atoms, and the further ones in a second scope, where this has the outcomes told.
 fn in_two_scopes(alloc: Global, lower: &[u8], top: &[u8]) -> Result<Option<Store>, NoMemory>
-    ensures { IfOk result (λ found. IfSome found (λ store. 1 < length store)) }
+    ensures { IfOk result (λ found. IfSome found (λ store. 1 < length store.scopes)) }
 {
     let mut store = Store::new(alloc, 8)?;
     if !all_answer(alloc, &mut store, lower)? {
@@ -179,17 +177,26 @@ fn is_left_so(alloc: Global, lower: &[u8], top: &[u8], form: &[u8]) -> Result<bo
     is_list(alloc, &basic, form)
 }
 
+// The four parts of a row.
+fn parts(row: &str) -> Option<[&str; 4]> {
+    let (lower, rest) = row.split_once("/")?;
+    let (top, rest) = rest.split_once("/")?;
+    let (form, extra) = rest.split_once("/")?;
+    Some([lower, top, form, extra])
+}
+
 #[test]
 fn outcomes_are_those_of_a_slow_model(rt: HostRuntime) -> Result<(), Fail> {
-    for i in 0..COUNT {
+    for row in CASES.lines() {
+        let [lower, top, form, extra] = parts(row).ok_or("a row has four parts")?;
         let right = is_solved_so(
             rt.alloc(),
-            BASES[i].as_bytes(),
-            MORES[i].as_bytes(),
-            FORMS[i].as_bytes(),
-            EXTRAS[i].as_bytes(),
+            lower.as_bytes(),
+            top.as_bytes(),
+            form.as_bytes(),
+            extra.as_bytes(),
         )?;
-        assert!(rt; right, "case {i}");
+        assert!(rt; right, "{row}");
     }
     Ok(())
 }

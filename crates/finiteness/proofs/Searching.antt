@@ -9,7 +9,8 @@ use Rattle.tree_model.specs.declared.tree.Symbol.{Symbol}
 use Rattle.flat_form.specs.declared.atom.Flat.{Flat}
 use Rattle.flat_form.specs.declared.atom.Flat.TheVariants.{VarTerm}
 use Rattle.flat_form.specs.Solved.{Ascends}
-use Rattle.flat_facts.specs.Spread.{IsTarget, Leads, IsDistinct, IsLeastRound}
+use Rattle.lists.specs.Distinct.{IsDistinct}
+use Rattle.flat_facts.specs.Spread.{IsTarget, Leads, IsLeastRound}
 use Rattle.flat_facts.proofs.Lists.{one_each}
 use Rattle.finiteness.specs.declared.search.Mark.{Mark}
 use Rattle.finiteness.specs.declared.search.Mark.TheVariants.{New, Open, Done}

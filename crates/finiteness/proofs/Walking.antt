@@ -8,7 +8,8 @@ use Rattle.tree_facts.proofs.Members.{contains_first, contains_later, contains_c
 use Rattle.flat_form.specs.declared.atom.Flat.{Flat}
 use Rattle.flat_form.specs.declared.atom.Flat.TheVariants.{VarVar, VarTerm}
 use Rattle.flat_form.specs.Solved.{Ascends, HasTerm}
-use Rattle.flat_facts.specs.Spread.{IsTarget, Leads, stays, goes, IsDistinct, IsAtMost, IsLeastRound}
+use Rattle.lists.specs.Distinct.{IsDistinct}
+use Rattle.flat_facts.specs.Spread.{IsTarget, Leads, stays, goes, IsAtMost, IsLeastRound}
 use Rattle.flat_facts.proofs.Lists.{one_each}
 use Rattle.finiteness.specs.declared.search.Mark.{Mark}
 use Rattle.finiteness.specs.declared.search.Turn.{Turn}

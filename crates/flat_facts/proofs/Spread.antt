@@ -20,7 +20,8 @@ use Rattle.flat_form.specs.declared.atom.Flat.{Flat}
 use Rattle.flat_form.specs.declared.atom.Flat.TheVariants.{VarVar, VarTerm}
 use Rattle.flat_form.specs.Meanings.{BasicHolds}
 use Rattle.flat_form.specs.Solved.{HasTerm, IsSolved}
-use Rattle.flat_facts.specs.Spread.{IsTarget, Leads, stays, goes, IsDistinct, ComesRound, IsLeaf, RoundIsInfinite, FiniteWhereLeavesAre, IsAtMost, LeastRoundIsOne}
+use Rattle.lists.specs.Distinct.{IsDistinct}
+use Rattle.flat_facts.specs.Spread.{IsTarget, Leads, stays, goes, ComesRound, IsLeaf, RoundIsInfinite, FiniteWhereLeavesAre, IsAtMost, LeastRoundIsOne}
 use Rattle.flat_facts.proofs.Lists.{holds_in}
 use Rattle.flat_form.specs.Parts.{AllBelow}
 use Rattle.flat_facts.proofs.Scopes.{above, all_below, argument_low}

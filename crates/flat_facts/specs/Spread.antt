@@ -1,5 +1,6 @@
 -- Walks along the equations of a solved conjunction: where they come round, and at which variables they end.
 use Rattle.std.specs.Prelude.{ℕ, ◌≡◌, ◌<◌, List, [], ◌∷◌, length, slice_index, Contains, ◌⊎◌, ◌↔◌}
+use Rattle.lists.specs.Distinct.{IsDistinct}
 use Rattle.tree_model.specs.declared.tree.Symbol.{Symbol}
 use Rattle.tree_model.specs.Signatures.{Signature}
 use Rattle.tree_model.specs.Trees.{IsFinite}
@@ -19,11 +20,6 @@ module _ (basic : List Flat) where
     stays : (u : ℕ) → Leads u [] [] u
     goes : (u w : ℕ) (symbol : Symbol) (xs : List ℕ) (i : ℕ) (path before : List ℕ) → Contains basic (VarTerm u symbol xs) → i < length xs
         → Leads (slice_index xs i) path before w → Leads u (i ∷ path) (u ∷ before) w
-
--- no number stands twice in the list
-abbrev pub IsDistinct : List ℕ → Type 0
-IsDistinct [] = Unit {0}
-IsDistinct (x ∷ xs) = (¬ Contains xs x) × IsDistinct xs
 
 -- the walk from v along the path ends where it first meets a variable again
 pub record ComesRound (basic : List Flat) (v : ℕ) (path : List ℕ) : Type 0 where

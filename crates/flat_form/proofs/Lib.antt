@@ -1,2 +1,3 @@
 pub mod Shapes
 pub mod Stable
+pub mod Symbols

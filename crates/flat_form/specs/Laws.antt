@@ -1,5 +1,6 @@
--- Every meaning is stable: what is not ruled out holds, so each reads as in classical logic.
-use Rattle.std.specs.Prelude.{ℕ, List}
+-- Every meaning is stable: what is not ruled out holds, so each reads as in classical logic. And what fits a signature
+-- is what has its root symbols alone.
+use Rattle.std.specs.Prelude.{ℕ, List, ◌↔◌}
 use Rattle.classical.specs.Classical.{IsStable}
 use Rattle.tree_model.specs.Signatures.{Signature}
 use Rattle.tree_model.specs.Valuations.{Valuation}
@@ -8,6 +9,8 @@ use Rattle.flat_form.specs.declared.cube.Part.{Part}
 use Rattle.flat_form.specs.declared.cube.Cube.{Cube}
 use Rattle.flat_form.specs.Meanings.{AtomHolds, BasicHolds, PartFails, AllFail, CubeHolds, SomeHolds, NormHolds, NormsHold}
 use Rattle.flat_form.specs.Normals.{Norm, Norms}
+use Rattle.flat_form.specs.Fitting.{BasicFits, CubeFits, NormFits}
+use Rattle.flat_form.specs.Symbols.{basic_symbols, cube_symbols, norm_symbols, AreRoots}
 
 -- what atoms and conjunctions of atoms mean
 pub record BasicsAreStable : Type 0 where
@@ -25,3 +28,9 @@ pub record CubesAreStable : Type 0 where
 pub record NormalsAreStable : Type 0 where
   pub one : (σ : Signature) (n : ℕ) (e : Valuation σ) (x : Norm) → IsStable (NormHolds n e x)
   pub all : (σ : Signature) (n : ℕ) (e : Valuation σ) (xs : Norms) → IsStable (NormsHold n e xs)
+
+-- what fits is what has root symbols alone
+pub record FitsBySymbols : Type 0 where
+  pub basic : (σ : Signature) (basic : List Flat) → BasicFits σ basic ↔ AreRoots σ (basic_symbols basic)
+  pub cube : (σ : Signature) (cube : Cube) → CubeFits σ cube ↔ AreRoots σ (cube_symbols cube)
+  pub norm : (σ : Signature) (x : Norm) → NormFits σ x ↔ AreRoots σ (norm_symbols x)

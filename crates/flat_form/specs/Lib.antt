@@ -1,10 +1,16 @@
 pub mod Added
 pub mod Beside
 pub mod Classes
+pub mod FirstOccurrence
 pub mod Fitting
 pub mod Laws
 pub mod Meanings
 pub mod Normals
 pub mod Numbering
+pub mod Orders
 pub mod Parts
+pub mod Raws
+pub mod Reduced
 pub mod Solved
+pub mod Steps
+pub mod Symbols

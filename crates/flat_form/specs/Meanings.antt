@@ -56,3 +56,7 @@ module _ {σ : Signature} where
     pub NormsHold : ℕ → Valuation σ → Norms → Type 0
     NormsHold n e none = Unit {0}
     NormsHold n e (also part rest) = NormHolds n e part × NormsHold n e rest
+
+-- no values make the atoms hold, over any signature
+abbrev pub HasNone : List Flat → Type 0
+HasNone atoms = (σ : Signature) (e : Valuation σ) → ¬ BasicHolds e atoms

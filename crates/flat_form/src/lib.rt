@@ -11,7 +11,7 @@ mod solved;
 pub use args::Args;
 pub use atom::{Basic, Flat};
 pub use cube::{Cube, Cubes, Part, Parts};
-pub use laws::meanings_are_stable;
+pub use laws::{fits_by_symbols, meanings_are_stable};
 pub use normal::{Normal, Normals};
 pub use solved::is_solved;
 

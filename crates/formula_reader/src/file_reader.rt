@@ -66,6 +66,6 @@ pub fn read_formula(alloc: Global, sig: &Signature, bytes: &[u8]) -> Result<Stat
     let names = reader.into_names(alloc)?;
     Ok(Statement {
         names,
-        body: body.formula,
+        body,
     })
 }

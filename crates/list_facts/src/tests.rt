@@ -1,0 +1,9 @@
+use super::*;
+use std::test::*;
+
+#[test]
+fn laws_can_be_called(_rt: HostRuntime) {
+    list_laws();
+    symbol_laws();
+    unique_laws();
+}
