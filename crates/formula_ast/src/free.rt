@@ -48,8 +48,8 @@ impl Free {
         ensures bound { OnOk result (self.new.bound.items ≡ self.old.bound.items) }
         ensures met { OnOk result (Collects self.old.met self.new.met (without_all self.old.bound.items (flat_map variables_in (list_of ts.now)))) }
     {
-        for i in 0..ts.len() {
-            self.term(ts.get(i))?;
+        for t in ts.as_slice() {
+            self.term(t)?;
         }
         Ok(())
     }

@@ -68,6 +68,13 @@ impl Terms {
         &self.items.as_slice()[i]
     }
 
+    /// The items. It takes no memory.
+    pub fn as_slice(&self) -> &[Term]
+        ensures { result.now ≡ list_of self.now }
+    {
+        self.items.as_slice()
+    }
+
     /// An equal list.
     #[cycle(copy)]
     pub fn copy(&self, alloc: Global) -> Result<Terms, NoMemory>
