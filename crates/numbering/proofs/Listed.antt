@@ -1,5 +1,5 @@
 -- Atoms that are read off in a new order.
-use Rattle.std.proofs.Common.{ℕ, zero, suc, ◌≡◌, ◌<◌, ◌≤◌, ◌+◌, List, [], ◌∷◌, ◌++◌, length, get_or, map, refl, sym, ap, ◌∙◌, subst, arith, inl, inr, ◌⊎◌, length-append}
+use Rattle.std.proofs.Common.{ℕ, zero, suc, ◌≡◌, ◌<◌, ◌≤◌, ◌+◌, List, [], ◌∷◌, ◌++◌, length, map, refl, sym, ap, ◌∙◌, subst, arith, inl, inr, ◌⊎◌}
 use Rattle.std.specs.Prelude.{All, Contains, slice_index, slice_set}
 use Rattle.std.proofs.lemmas.List.{length-set}
 use Rattle.std.proofs.lemmas.List.Elements.{All-contains, Contains-push, Contains-append_left}
@@ -9,12 +9,12 @@ use Rattle.flat_form.specs.declared.atom.Flat.TheVariants.{VarVar, VarTerm, Fini
 use Rattle.flat_form.specs.Numbering.{AtomOver, BasicOver}
 use Rattle.flat_form.specs.Solved.{variable_of, Ascends}
 use Rattle.flat_form.specs.Parts.{renumbered}
-use Rattle.tree_facts.proofs.Members.{contains_first, contains_later, contains_cases}
+use Rattle.tree_facts.proofs.Members.{contains_first, contains_later}
 use Rattle.flat_facts.proofs.Lists.{one_each}
 use Rattle.lists.specs.Distinct.{IsDistinct}
 use Rattle.flat_form.specs.Orders.{place_of, new_number, IsRenumbering}
 use Rattle.numbering.specs.Listing.{AreNumbers, AreNoted, ListsAt, without, with, IsListedTo}
-use Rattle.numbering.proofs.Numbers.{lt_or_le, push_cases, item_in, item_is, apart_at, place_at, place_low, place_le, place_none, number_first, number_mid, number_stands, number_once, number_of_item}
+use Rattle.numbering.proofs.Numbers.{lt_or_le, push_cases, item_in, apart_at, place_at, place_low, place_none, number_first, number_mid, number_stands, number_once}
 
 ascends_push : (xs : List Flat) (x : Flat) → Ascends xs → ((a : Flat) → Contains xs a → variable_of a < variable_of x) → Ascends (xs ++ x ∷ [])
 ascends_push [] x up low = (λ later i. absurd (omega (arith, i.1)), tt)

@@ -6,7 +6,7 @@ use Rattle.std.proofs.lemmas.List.Elements.{Contains-get_or, Contains-push_cases
 use Rattle.std.proofs.lemmas.List.Sums.{position_or_len_is, fails_before_first, passes_at_first, prefix_len-le-length}
 use Rattle.std.proofs.lemmas.Bool.{cond-true, cond-false, lt-ltb, le-ltb}
 use Rattle.std.proofs.lemmas.Bool.Decides.{eqb_tells}
-use Rattle.tree_facts.proofs.Members.{contains_first, contains_later, contains_cases}
+use Rattle.tree_facts.proofs.Members.{contains_first, contains_later}
 use Rattle.lists.specs.Distinct.{IsDistinct}
 use Rattle.flat_form.specs.Orders.{place_of, new_number}
 
