@@ -50,7 +50,8 @@ impl<R: Files> FileSource<R> {
 
 // Counts one failure more, and answers it.
 fn counted(faults: &mut u64) -> Failed
-    ensures { faults.new ≡ next faults.old }
+    ensures rises { faults.new ≡ next faults.old }
+    ensures count { faults.old ≤ faults.new }
 {
     *faults = faults.saturating_add(1);
     Failed
