@@ -217,10 +217,7 @@ impl<'a> Reader<'a> {
         self.expect(TokenKind::Stop)?;
         let names = mem::replace(&mut self.names, Variables::new(alloc)).into_names(alloc)?;
         let built = !self.loose;
-        file.solves.push(Statement {
-            names,
-            body,
-        })?;
+        file.solves.push(Statement { names, body })?;
         Ok(built)
     }
 

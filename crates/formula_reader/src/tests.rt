@@ -221,7 +221,11 @@ fn a_formula_may_use_names_past_the_limits_of_files(rt: HostRuntime) -> Result<(
     signature.declare("wide", Kind::Symbol, 9)?;
     let long = format!(in rt.alloc(); "{NAME_OF_64}4")?;
     signature.declare(&long, Kind::Symbol, 0)?;
-    let wide = read_as(rt.alloc(), &signature, "X = wide(a, a, a, a, a, a, a, a, a)")?;
+    let wide = read_as(
+        rt.alloc(),
+        &signature,
+        "X = wide(a, a, a, a, a, a, a, a, a)",
+    )?;
     let applied = "[X ] 0 = #4(#1, #1, #1, #1, #1, #1, #1, #1, #1)";
     assert_eq!(rt; wide.as_str(), applied);
     let text = format!(in rt.alloc(); "X = {long}")?;

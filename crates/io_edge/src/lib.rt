@@ -16,9 +16,9 @@ mod system;
 mod tests;
 
 pub use failed::Failed;
+pub use lists::NoMemory;
 pub use memory_sink::MemorySink;
 pub use memory_source::MemorySource;
-pub use lists::NoMemory;
 pub use sink::Sink;
 pub use source::Source;
 pub use system::{ErrSink, FileSource, OutSink};

@@ -7,11 +7,7 @@ use lists::NoMemory;
 use std::alloc::Global;
 
 /// The text of an answer of the statement with this number, counted from 1.
-pub(crate) fn answer_text(
-    alloc: Global,
-    number: usize,
-    answer: Answer,
-) -> Result<String, NoMemory>
+pub(crate) fn answer_text(alloc: Global, number: usize, answer: Answer) -> Result<String, NoMemory>
     ensures { IfOk result (λ text. string_bytes text ≡ answer_text number answer) }
 {
     let text = match answer {

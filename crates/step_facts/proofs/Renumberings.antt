@@ -141,8 +141,8 @@ module _ (f : ℕ → ℕ) (P : Flat → Type 0) (old new : List Flat) (renumber
       ascending = renumbering.ascending;
       direct = λ u r i. (
         (let q = was_equal u r i in
-        let keeps = fixed q.left q.right q.stands q.taken in
-        omega (arith, q.left_is, q.right_is, keeps.0, keeps.1, (solved.direct q.left q.right q.stands).0)),
+            let keeps = fixed q.left q.right q.stands q.taken in
+            omega (arith, q.left_is, q.right_is, keeps.0, keeps.1, (solved.direct q.left q.right q.stands).0)),
         λ w. direct_new u r w i,
       );
       plain = plain_new;

@@ -47,12 +47,7 @@ const OUTCOMES: &str = "\
 167 ended
 168 fault 98 notbuilt";
 
-fn expect_front(
-    rt: &impl Abort,
-    alloc: Global,
-    front: &[u8],
-    outcome: &str,
-) -> Result<(), Fail> {
+fn expect_front(rt: &impl Abort, alloc: Global, front: &[u8], outcome: &str) -> Result<(), Fail> {
     match outcome {
         "nothing" => expect_outcome(rt, alloc, front, "", outcome),
         "ended" => {

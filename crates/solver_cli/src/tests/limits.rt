@@ -137,16 +137,34 @@ fn the_greatest_number_of_symbols(rt: HostRuntime) -> Result<(), Fail> {
 fn one_symbol_more(rt: HostRuntime) -> Result<(), Fail> {
     let alloc = rt.alloc();
     let text = counted(alloc, "symbol s/0", ", s", "/0", ".", 4096)?;
-    expect_outcome(&rt, alloc, text.as_bytes(), "fault 35757 limit", "4,097 symbols")
+    expect_outcome(
+        &rt,
+        alloc,
+        text.as_bytes(),
+        "fault 35757 limit",
+        "4,097 symbols",
+    )
 }
 
 #[test]
 fn predicates_of_one_file(rt: HostRuntime) -> Result<(), Fail> {
     let alloc = rt.alloc();
     let most = counted(alloc, "", "pred p", " := true. ", "", 1024)?;
-    expect_outcome(&rt, alloc, most.as_bytes(), "fault 0 notbuilt", "1,024 predicates")?;
+    expect_outcome(
+        &rt,
+        alloc,
+        most.as_bytes(),
+        "fault 0 notbuilt",
+        "1,024 predicates",
+    )?;
     let more = counted(alloc, "", "pred p", " := true. ", "", 1025)?;
-    expect_outcome(&rt, alloc, more.as_bytes(), "fault 19375 limit", "1,025 predicates")
+    expect_outcome(
+        &rt,
+        alloc,
+        more.as_bytes(),
+        "fault 19375 limit",
+        "1,025 predicates",
+    )
 }
 
 #[test]
@@ -155,5 +173,11 @@ fn variables_behind_one_quantifier(rt: HostRuntime) -> Result<(), Fail> {
     let most = counted(alloc, "solve exists", " X", "", ": X0 = X999.", 1000)?;
     expect_outcome(&rt, alloc, most.as_bytes(), "1 true", "1,000 variables")?;
     let more = counted(alloc, "solve exists", " X", "", ": X0 = X999.", 1001)?;
-    expect_outcome(&rt, alloc, more.as_bytes(), "fault 4903 limit", "1,001 variables")
+    expect_outcome(
+        &rt,
+        alloc,
+        more.as_bytes(),
+        "fault 4903 limit",
+        "1,001 variables",
+    )
 }
