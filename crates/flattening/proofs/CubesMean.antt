@@ -12,7 +12,8 @@ use Rattle.flat_form.specs.declared.atom.Flat.TheVariants.{VarVar, VarTerm, Fini
 use Rattle.flat_form.specs.declared.cube.Part.{Part}
 use Rattle.flat_form.specs.declared.cube.Cube.{Cube}
 use Rattle.flat_form.specs.Meanings.{AtomHolds, BasicHolds, AllFail, NormHolds, NormsHold, Extends, SomeHolds, CubeHolds}
-use Rattle.flattening.specs.Flattening.{renamed, placed, denied_parts, denied, all_denied}
+use Rattle.flat_form.specs.Parts.{renumbered}
+use Rattle.flattening.specs.Flattening.{placed, denied_parts, denied, all_denied}
 
 pub length_map : (f : ℕ → ℕ) (xs : List ℕ) → length (map f xs) ≡ length xs
 length_map f [] = refl
@@ -36,30 +37,30 @@ module _ {σ : Signature} where
   basic_moves [] d e alike holds = tt
   basic_moves (atom ∷ rest) d e alike holds = (atom_moves atom d e alike holds.0, basic_moves rest d e alike holds.1)
 
-  to_renamed : (f : ℕ → ℕ) (atom : Flat) (e : Valuation σ) → AtomHolds (λ v. e (f v)) atom → AtomHolds e (renamed f atom)
-  to_renamed f (VarVar u v) e holds = holds
-  to_renamed f (VarTerm u s xs) e holds = record {
+  to_renumbered : (f : ℕ → ℕ) (atom : Flat) (e : Valuation σ) → AtomHolds (λ v. e (f v)) atom → AtomHolds e (renumbered f atom)
+  to_renumbered f (VarVar u v) e holds = holds
+  to_renumbered f (VarTerm u s xs) e holds = record {
     root = holds.root ∙ ap (λ n. Some (s, n)) (sym (length_map f xs));
     child = λ i w path.
         let k : i < length xs = omega (arith, length_map f xs) in holds.child i k path ∙ ap (λ v. at (e v).graph path) (sym (map_at f xs i k));
   }
-  to_renamed f (Finite u) e holds = holds
+  to_renumbered f (Finite u) e holds = holds
 
-  from_renamed : (f : ℕ → ℕ) (atom : Flat) (e : Valuation σ) → AtomHolds e (renamed f atom) → AtomHolds (λ v. e (f v)) atom
-  from_renamed f (VarVar u v) e holds = holds
-  from_renamed f (VarTerm u s xs) e holds = record {
+  from_renumbered : (f : ℕ → ℕ) (atom : Flat) (e : Valuation σ) → AtomHolds e (renumbered f atom) → AtomHolds (λ v. e (f v)) atom
+  from_renumbered f (VarVar u v) e holds = holds
+  from_renumbered f (VarTerm u s xs) e holds = record {
     root = holds.root ∙ ap (λ n. Some (s, n)) (length_map f xs);
     child = λ i w path. holds.child i (omega (arith, length_map f xs)) path ∙ ap (λ v. at (e v).graph path) (map_at f xs i w);
   }
-  from_renamed f (Finite u) e holds = holds
+  from_renumbered f (Finite u) e holds = holds
 
-  pub basic_to_renamed : (f : ℕ → ℕ) (basic : List Flat) (e : Valuation σ) → BasicHolds (λ v. e (f v)) basic → BasicHolds e (map (renamed f) basic)
-  basic_to_renamed f [] e holds = tt
-  basic_to_renamed f (atom ∷ rest) e holds = (to_renamed f atom e holds.0, basic_to_renamed f rest e holds.1)
+  pub basic_to_renumbered : (f : ℕ → ℕ) (basic : List Flat) (e : Valuation σ) → BasicHolds (λ v. e (f v)) basic → BasicHolds e (map (renumbered f) basic)
+  basic_to_renumbered f [] e holds = tt
+  basic_to_renumbered f (atom ∷ rest) e holds = (to_renumbered f atom e holds.0, basic_to_renumbered f rest e holds.1)
 
-  pub basic_from_renamed : (f : ℕ → ℕ) (basic : List Flat) (e : Valuation σ) → BasicHolds e (map (renamed f) basic) → BasicHolds (λ v. e (f v)) basic
-  basic_from_renamed f [] e holds = tt
-  basic_from_renamed f (atom ∷ rest) e holds = (from_renamed f atom e holds.0, basic_from_renamed f rest e holds.1)
+  pub basic_from_renumbered : (f : ℕ → ℕ) (basic : List Flat) (e : Valuation σ) → BasicHolds e (map (renumbered f) basic) → BasicHolds (λ v. e (f v)) basic
+  basic_from_renumbered f [] e holds = tt
+  basic_from_renumbered f (atom ∷ rest) e holds = (from_renumbered f atom e holds.0, basic_from_renumbered f rest e holds.1)
 
 pub placed_below : (args : List ℕ) (scope v : ℕ) → v < length args → placed args scope v ≡ slice_index args v
 placed_below args scope v w = rw (lt-ltb v (length args) w) refl
@@ -109,7 +110,7 @@ module _ {σ : Signature} (args : List ℕ) (scope : ℕ) (args_below : (v : ℕ
   parts_denied outer d x alike [] fail = tt
   parts_denied outer d x alike (part ∷ rest) fail = (
     (λ y ext holds u. fail.0 (λ v. y (placed args scope v)) (λ v w path. ext (placed args scope v) (placed_within args scope args_below outer v w) path ∙ alike v w path)
-        (basic_from_renamed (placed args scope) part.basic y holds)),
+        (basic_from_renumbered (placed args scope) part.basic y holds)),
     parts_denied outer d x alike rest fail.1,
   )
 
@@ -120,7 +121,7 @@ module _ {σ : Signature} (args : List ℕ) (scope : ℕ) (args_below : (v : ℕ
     (λ z ext basic.
         let y = after (scope + outer) d z in
         let alike : (v : ℕ) → Alike (y (placed args scope v)) (z v) = spread (scope + outer) d z (omega arith) (λ v w path. sym (ext v (back outer v w) path)) in
-        holds.0 y (λ v w. after_below (scope + outer) d z v w) (basic_to_renamed (placed args scope) part.basic y (basic_moves part.basic z (λ v. y (placed args scope v)) (λ v path. sym (alike v path)) basic)) tt),
+        holds.0 y (λ v w. after_below (scope + outer) d z v w) (basic_to_renumbered (placed args scope) part.basic y (basic_moves part.basic z (λ v. y (placed args scope v)) (λ v path. sym (alike v path)) basic)) tt),
     parts_fail outer d rest holds.1,
   )
     where
@@ -133,7 +134,7 @@ module _ {σ : Signature} (args : List ℕ) (scope : ℕ) (args_below : (v : ℕ
       let y = after scope d x in
       let same : (v : ℕ) → Alike (y (placed args scope v)) (x v) = spread scope d x (omega arith) (λ v w path. first x ext v w path) in
       normal y (λ v w. after_below scope d x v w)
-      (basic_to_renamed (placed args scope) cube.basic y (basic_moves cube.basic x (λ v. y (placed args scope v)) (λ v path. sym (same v path)) basic))
+      (basic_to_renumbered (placed args scope) cube.basic y (basic_moves cube.basic x (λ v. y (placed args scope v)) (λ v path. sym (same v path)) basic))
       (parts_denied cube.outer y x (λ v w. same v) cube.parts (subst (λ n. AllFail (n + cube.outer) x cube.parts) free parts)))
     where
       first : (x : Valuation σ) → Extends cube.free p x → (v : ℕ) → placed args scope v < scope → Alike (d (placed args scope v)) (x v)
@@ -150,7 +151,7 @@ module _ {σ : Signature} (args : List ℕ) (scope : ℕ) (args_below : (v : ℕ
       (λ v w path.
           let k : v < length args = omega (arith, free) in
           moved y _ _ (placed_below args scope v k) path ∙ ext (slice_index args v) (args_below v k) path ∙ alike v k path),
-      basic_from_renamed (placed args scope) cube.basic y basic,
+      basic_from_renumbered (placed args scope) cube.basic y basic,
       subst (λ n. AllFail (n + cube.outer) (λ v. y (placed args scope v)) cube.parts) (sym free) (parts_fail cube.outer y cube.parts parts),
     ),
   ))

@@ -10,7 +10,8 @@ use Rattle.flat_form.specs.declared.cube.Part.{Part}
 use Rattle.flat_form.specs.declared.cube.Cube.{Cube}
 use Rattle.flat_form.specs.Normals.{Norm, Norms, norm, none, also, join}
 use Rattle.flattening.proofs.Norms.{join_none, join_join}
-use Rattle.flattening.specs.Flattening.{renamed, denied_parts, denied, all_denied}
+use Rattle.flat_form.specs.Parts.{renumbered}
+use Rattle.flattening.specs.Flattening.{denied_parts, denied, all_denied}
 
 pub rest_at : {A : Type 0} (xs : List A) (i : ℕ) (x : A) → slice_get xs i ≡ Some x → drop i xs ≡ x ∷ drop (i + 1) xs
 rest_at xs i x there = rw (add-one, drop-cons xs i x (slice_get_within xs i x there), get_or_from_slice_get xs i x x there) refl
@@ -20,7 +21,7 @@ pub map_more : {A B : Type 0} (f : A → B) (xs : List A) (i : ℕ) (x : A) (y :
 map_more f xs i x y made new there was is more = rw (take_more_got xs i x there, map-append, more, was, is) refl
 
 pub denied_part_more : (f : ℕ → ℕ) (parts : List Part) (i : ℕ) (part : Part) (item : Norm) (made new all : Norms) → slice_get parts i ≡ Some part
-    → join made (denied_parts f (drop i parts)) ≡ all → item ≡ norm part.inner (map (renamed f) part.basic) none → new ≡ join made (also item none)
+    → join made (denied_parts f (drop i parts)) ≡ all → item ≡ norm part.inner (map (renumbered f) part.basic) none → new ≡ join made (also item none)
     → join new (denied_parts f (drop (i + 1) parts)) ≡ all
 denied_part_more f parts i part item made new all there was is more = rw (more, is, join_join) (rw (rest_at parts i part there) at was)
 

@@ -2,8 +2,12 @@ pub mod Bridge
 pub mod ByForm
 pub mod CubesMean
 pub mod EachCube
+pub mod EachItem
+pub mod EachSymbol
 pub mod Filled
 pub mod Fitting
+pub mod Flattened
+pub mod FormSymbols
 pub mod Given
 pub mod Meaning
 pub mod Norms

@@ -15,7 +15,8 @@ use Rattle.flattening.specs.Plain.{PlainTerm, PlainTerms, variable, apply, no_te
 use Rattle.flattening.specs.Numbers.{rank_in}
 use Rattle.flattening.specs.Tables.{cubes_at}
 use Rattle.flattening.specs.Conditions.{HasFreeVariables, HasEntries, TermIsNarrow, TermsAreNarrow, IsNarrow}
-use Rattle.flattening.specs.Flattening.{alone, inside, wide, wides, applied, number, arguments, equations, deeper, equation, equality, equality_bound, whole, numbers, wholes, renamed, placed, denied_parts, denied, all_denied, bound_of, atoms_of, parts_of, flattened}
+use Rattle.flat_form.specs.Parts.{renumbered}
+use Rattle.flattening.specs.Flattening.{alone, inside, wide, wides, applied, number, arguments, equations, deeper, equation, equality, equality_bound, whole, numbers, wholes, placed, denied_parts, denied, all_denied, bound_of, atoms_of, parts_of, flattened}
 use Rattle.flattening.proofs.Values.{In, InSome, length_arguments}
 use Rattle.flattening.proofs.Filled.{deep, deep_wides, number_below}
 use Rattle.flattening.proofs.CubesMean.{length_map, placed_within}
@@ -89,25 +90,25 @@ atoms_over (and f g) m n all le below narrow =
     (atoms_over g m (n + bound_of f) all (omega arith) (λ x i. omega (arith, below x (inr i))) narrow.1)
 atoms_over (exists x f) m n all le below narrow = atoms_over f (update m x n) (n + 1) all (omega arith) (under m n x f below) narrow
 
-renamed_over : (f : ℕ → ℕ) (n all : ℕ) → ((v : ℕ) → v < n → f v < all) → (atom : Flat) → AtomOver n atom → AtomOver all (renamed f atom)
-renamed_over f n all within (VarVar u v) over = (within u over.0, within v over.1)
-renamed_over f n all within (VarTerm u s xs) over = (
+renumbered_over : (f : ℕ → ℕ) (n all : ℕ) → ((v : ℕ) → v < n → f v < all) → (atom : Flat) → AtomOver n atom → AtomOver all (renumbered f atom)
+renumbered_over f n all within (VarVar u v) over = (within u over.0, within v over.1)
+renumbered_over f n all within (VarTerm u s xs) over = (
   within u over.0,
   All-map (λ v. v < all) f xs (All-weaker (λ v. v < n) (λ v. f v < all) within xs over.1),
   omega (arith, length_map f xs, over.2),
 )
-renamed_over f n all within (Finite u) over = within u over
+renumbered_over f n all within (Finite u) over = within u over
 
-basic_renamed : (f : ℕ → ℕ) (n all : ℕ) → ((v : ℕ) → v < n → f v < all) → (basic : List Flat) → BasicOver n basic → BasicOver all (map (renamed f) basic)
-basic_renamed f n all within basic over =
-    All-map (AtomOver all) (renamed f) basic (All-weaker (AtomOver n) (λ atom. AtomOver all (renamed f atom)) (renamed_over f n all within) basic over)
+basic_renumbered : (f : ℕ → ℕ) (n all : ℕ) → ((v : ℕ) → v < n → f v < all) → (basic : List Flat) → BasicOver n basic → BasicOver all (map (renumbered f) basic)
+basic_renumbered f n all within basic over =
+    All-map (AtomOver all) (renumbered f) basic (All-weaker (AtomOver n) (λ atom. AtomOver all (renumbered f atom)) (renumbered_over f n all within) basic over)
 
 module _ (args : List ℕ) (scope : ℕ) (args_below : (v : ℕ) → v < length args → slice_index args v < scope) where
   parts_denied_over : (outer : ℕ) (parts : List Part) → All (PartOver (length args + outer)) parts → NormsOver (scope + outer) (denied_parts (placed args scope) parts)
   parts_denied_over outer [] over = tt
   parts_denied_over outer (part ∷ rest) over = (
     (
-      basic_renamed (placed args scope) (length args + outer + part.inner) (scope + outer + part.inner)
+      basic_renumbered (placed args scope) (length args + outer + part.inner) (scope + outer + part.inner)
           (λ v w. omega (arith, placed_within args scope args_below (outer + part.inner) v (omega arith))) part.basic
           (All-head (PartOver (length args + outer)) part rest over),
       tt,
@@ -117,7 +118,7 @@ module _ (args : List ℕ) (scope : ℕ) (args_below : (v : ℕ) → v < length 
 
   cube_denied_over : (cube : Cube) → cube.free ≡ length args → IsWellNumbered cube → NormOver scope (denied args scope cube)
   cube_denied_over cube free over = (
-    basic_renamed (placed args scope) (cube.free + cube.outer) (scope + cube.outer) (λ v w. placed_within args scope args_below cube.outer v (omega (arith, free))) cube.basic over.basic,
+    basic_renumbered (placed args scope) (cube.free + cube.outer) (scope + cube.outer) (λ v w. placed_within args scope args_below cube.outer v (omega (arith, free))) cube.basic over.basic,
     parts_denied_over cube.outer cube.parts (subst (λ (n : ℕ). All (PartOver (n + cube.outer)) cube.parts) free over.parts),
   )
 

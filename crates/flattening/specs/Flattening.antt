@@ -10,6 +10,7 @@ use Rattle.flat_form.specs.declared.atom.Flat.TheVariants.{VarVar, VarTerm, Fini
 use Rattle.flat_form.specs.declared.cube.Part.{Part}
 use Rattle.flat_form.specs.declared.cube.Cube.{Cube}
 use Rattle.flat_form.specs.Normals.{Norm, Norms, norm, none, also, join}
+use Rattle.flat_form.specs.Parts.{renumbered}
 use Rattle.formula_ast.specs.Forms.{Form}
 use Rattle.flattening.specs.declared.solved.Key.{Key}
 use Rattle.flattening.specs.Numbers.{rank_in}
@@ -94,12 +95,6 @@ abbrev pub wholes : (ℕ → ℕ) → ℕ → PlainTerms → List Flat
 wholes m n no_terms = []
 wholes m n (one_more t ts) = whole m n t ++ wholes m (n + wide t) ts
 
--- the atom with other variables
-abbrev pub renamed : (ℕ → ℕ) → Flat → Flat
-renamed f (VarVar u v) = VarVar (f u) (f v)
-renamed f (VarTerm u symbol xs) = VarTerm (f u) symbol (map f xs)
-renamed f (Finite u) = Finite (f u)
-
 -- a cube's variable in scope of so many: the first are the arguments, and the others come behind those in scope
 abbrev pub placed : List ℕ → ℕ → ℕ → ℕ
 placed args scope v = if nat_lt v (length args) then slice_index args v else scope + (v - length args)
@@ -107,11 +102,11 @@ placed args scope v = if nat_lt v (length args) then slice_index args v else sco
 -- no values of the inner variables make the part hold
 abbrev pub denied_parts : (ℕ → ℕ) → List Part → Norms
 denied_parts f [] = none
-denied_parts f (part ∷ rest) = also (norm part.inner (map (renamed f) part.basic) none) (denied_parts f rest)
+denied_parts f (part ∷ rest) = also (norm part.inner (map (renumbered f) part.basic) none) (denied_parts f rest)
 
 -- the cube doesn't hold at the arguments
 abbrev pub denied : List ℕ → ℕ → Cube → Norm
-denied args scope cube = norm cube.outer (map (renamed (placed args scope)) cube.basic) (denied_parts (placed args scope) cube.parts)
+denied args scope cube = norm cube.outer (map (renumbered (placed args scope)) cube.basic) (denied_parts (placed args scope) cube.parts)
 
 -- none of the cubes holds at the arguments
 abbrev pub all_denied : List ℕ → ℕ → List Cube → Norms

@@ -1,6 +1,7 @@
 ghost use Rattle.std.specs.Prelude.{◌≡◌, map, IfOk};
 ghost use Rattle.flat_form.specs.Normals.{norm_of, norms_of};
-ghost use Rattle.flattening.specs.Flattening.{placed, renamed, denied_parts, denied, all_denied};
+ghost use Rattle.flat_form.specs.Parts.{renumbered};
+ghost use Rattle.flattening.specs.Flattening.{placed, denied_parts, denied, all_denied};
 
 use crate::terms::sum;
 use flat_form::{Args, Basic, Cube, Cubes, Flat, Normal, Normals, Parts};
@@ -19,7 +20,7 @@ fn place(variable: usize, args: &Places, scope: usize) -> Result<usize, NoMemory
 
 // The atom with its variables in their places.
 fn place_atom(alloc: Global, atom: &Flat, args: &Places, scope: usize) -> Result<Flat, NoMemory>
-    ensures { IfOk result (λ made. made ≡ renamed (placed args.now scope) atom.now) }
+    ensures { IfOk result (λ made. made ≡ renumbered (placed args.now scope) atom.now) }
 {
     match atom {
         Flat::VarVar(u, v) => {
@@ -51,7 +52,7 @@ fn place_args(alloc: Global, xs: &Args, args: &Places, scope: usize) -> Result<A
 }
 
 fn place_basic(alloc: Global, basic: &Basic, args: &Places, scope: usize) -> Result<Basic, NoMemory>
-    ensures { IfOk result (λ made. made ≡ map (renamed (placed args.now scope)) basic.now) }
+    ensures { IfOk result (λ made. made ≡ map (renumbered (placed args.now scope)) basic.now) }
 {
     let mut made = Basic::new(alloc);
     for i in 0..basic.len() {

@@ -10,7 +10,7 @@ mod solved;
 mod terms;
 
 pub use conjunctions::flatten;
-pub use laws::well_formed_fits;
+pub use laws::{flattening_keeps_symbols, well_formed_fits};
 pub use solved::{Key, Solved};
 
 #[cfg(test)]

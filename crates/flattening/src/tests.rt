@@ -383,4 +383,5 @@ fn a_deep_formula_is_flattened(rt: HostRuntime) -> Result<(), Fail> {
 #[test]
 fn laws_can_be_called(_rt: HostRuntime) {
     well_formed_fits();
+    flattening_keeps_symbols();
 }
