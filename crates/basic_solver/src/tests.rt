@@ -2,13 +2,11 @@ ghost use Rattle.std.specs.Prelude.{◌≡◌, ◌/◌, ◌<◌, ◌≤◌, leng
 ghost use Rattle.flat_form.specs.Numbering.{AtomOver};
 ghost use Rattle.basic_solver.specs.Stores.{open_in};
 
-mod asserted;
-mod outcomes;
+mod cases;
 
 use super::*;
-use asserted::{BASES, COUNT, MORES};
+use cases::CASES;
 use flat_form::{Args, Basic, Flat};
-use outcomes::{EXTRAS, FORMS};
 use std::alloc::Global;
 use std::test::*;
 use tree_model::{NoMemory, Symbol};
@@ -179,17 +177,26 @@ fn is_left_so(alloc: Global, lower: &[u8], top: &[u8], form: &[u8]) -> Result<bo
     is_list(alloc, &basic, form)
 }
 
+// The four parts of a row.
+fn parts(row: &str) -> Option<[&str; 4]> {
+    let (lower, rest) = row.split_once("/")?;
+    let (top, rest) = rest.split_once("/")?;
+    let (form, extra) = rest.split_once("/")?;
+    Some([lower, top, form, extra])
+}
+
 #[test]
 fn outcomes_are_those_of_a_slow_model(rt: HostRuntime) -> Result<(), Fail> {
-    for i in 0..COUNT {
+    for row in CASES.lines() {
+        let [lower, top, form, extra] = parts(row).ok_or("a row has four parts")?;
         let right = is_solved_so(
             rt.alloc(),
-            BASES[i].as_bytes(),
-            MORES[i].as_bytes(),
-            FORMS[i].as_bytes(),
-            EXTRAS[i].as_bytes(),
+            lower.as_bytes(),
+            top.as_bytes(),
+            form.as_bytes(),
+            extra.as_bytes(),
         )?;
-        assert!(rt; right, "case {i}");
+        assert!(rt; right, "{row}");
     }
     Ok(())
 }

@@ -1,6 +1,6 @@
 -- A part that mentions a variable with a fresh value is false.
-use Rattle.std.specs.Prelude.{Option, Some as Some', None, Contains, slice_index}
-use Rattle.std.proofs.Common.{ℕ, suc, ◌≡◌, ◌<◌, List, [], ◌∷◌, length, sym, ap, ◌∙◌, subst, arith, inl, inr, ◌⊎◌}
+use Rattle.std.specs.Prelude.{Option, Some as Some', None, Contains}
+use Rattle.std.proofs.Common.{ℕ, ◌≡◌, ◌<◌, List, [], ◌∷◌, length, sym, ap, ◌∙◌, subst, arith, inl, inr, ◌⊎◌}
 use Rattle.classical.proofs.Stable.{◌>>=◌, either_way}
 use Rattle.tree_model.specs.declared.tree.Symbol.{Symbol}
 use Rattle.tree_model.specs.declared.tree.Symbol.TheVariants.{Further}
@@ -15,6 +15,7 @@ use Rattle.flat_form.specs.Meanings.{AtomHolds, BasicHolds, Extends}
 use Rattle.flat_form.specs.Parts.{variables_of, Under, top, below, IsPartOver}
 use Rattle.flat_form.specs.Solved.{variable_of, IsOpen, HasTerm, IsDirect}
 use Rattle.flat_facts.proofs.Lists.{holds_in}
+use Rattle.cube_facts.proofs.Variables.{own_variable, argument_at}
 
 -- d gives each idle variable a fresh value of its own, and solves the base
 pub record IsFresh {σ : Signature} (m : ℕ) (base part : List Flat) (d : Valuation σ) (Idle : ℕ → Type 0) (index : ℕ → ℕ) : Type 0 where
@@ -37,14 +38,6 @@ root_of s t m n e = ap symbol_of e
 
 index_of : (k l : ℕ) → Further k ≡ Further l → k ≡ l
 index_of k l e = cc e
-
--- the place of an argument
-pub argument_at : (xs : List ℕ) (v : ℕ) → Contains xs v → (j : ℕ) × (j < length xs) × (slice_index xs j ≡ v)
-argument_at [] v i = absurd (omega (arith, i.1))
-argument_at (x ∷ xs) v i = elim (contains_cases x v xs i) [
-  | inl e ↦ (0, omega arith, e)
-  | inr more ↦ let (j, w, e) = argument_at xs v more in (suc j, omega (arith, w), e)
-]
 
 module _ {σ : Signature} (m : ℕ) (base part : List Flat) (d x : Valuation σ) (Idle : ℕ → Type 0) (index : ℕ → ℕ)
     (direct : IsDirect base) (shape : IsPartOver m base part) (fresh : IsFresh m base part d Idle index)
@@ -174,11 +167,6 @@ pub fresh_part_fails : {σ : Signature} (m : ℕ) (base part : List Flat) (d : V
 fresh_part_fails m base part d Idle index direct shape fresh i a idle inside occurs x beyond =
     λ holds. mentioned m base part d x Idle index direct shape fresh beyond holds a inside i occurs idle
 
-pub variable_occurs : (a : Flat) → Contains (variables_of a) (variable_of a)
-variable_occurs (VarVar u h) = contains_first u (h ∷ [])
-variable_occurs (VarTerm u s xs) = contains_first u xs
-variable_occurs (Finite u) = contains_first u []
-
 -- where every open variable has a fresh value, no part with an atom has such values
 pub all_fresh_fails : {σ : Signature} (m : ℕ) (base part : List Flat) (d : Valuation σ) (index : ℕ → ℕ)
     → IsDirect base → IsPartOver m base part → IsFresh m base part d (λ v. (v < m) × IsOpen base v) index
@@ -187,6 +175,6 @@ pub all_fresh_fails : {σ : Signature} (m : ℕ) (base part : List Flat) (d : Va
 all_fresh_fails m base part d index direct shape fresh a inside x beyond = λ holds.
     let Idle : ℕ → Type 0 = λ v. (v < m) × IsOpen base v in
     elim (top_equation m base part d x Idle index direct shape fresh beyond holds (shape.under a inside)) [
-      | inl low ↦ mentioned m base part d x Idle index direct shape fresh beyond holds a inside (variable_of a) (variable_occurs a) (low, shape.left_open a inside low)
+      | inl low ↦ mentioned m base part d x Idle index direct shape fresh beyond holds a inside (variable_of a) (own_variable a) (low, shape.left_open a inside low)
       | inr (u, low, (s, xs, b)) ↦ mentioned m base part d x Idle index direct shape fresh beyond holds (VarTerm u s xs) b u (contains_first u xs) (low, shape.left_open (VarTerm u s xs) b low)
     ]

@@ -1,14 +1,14 @@
 -- Fresh values can be had: for idle variables over any values of the others, and for all open variables at once.
 use Rattle.std.specs.Prelude.{Some as Some', Contains, max}
-use Rattle.std.proofs.Common.{ℕ, ◌≡◌, ◌<◌, ◌≤◌, ◌+◌, List, [], ◌∷◌, refl, sym, ap, ◌∙◌, subst, arith, inl, inr, ◌⊎◌, Bool, true, false, cond, eqb}
-use Rattle.std.proofs.lemmas.Bool.Decides.{eqb_tells}
+use Rattle.std.proofs.Common.{ℕ, ◌≡◌, ◌<◌, ◌≤◌, ◌+◌, List, [], ◌∷◌, refl, sym, ap, ◌∙◌, subst, arith, inl, inr, ◌⊎◌, cond}
 use Rattle.classical.proofs.Stable.{some}
 use Rattle.tree_model.specs.declared.tree.Symbol.TheVariants.{Further}
 use Rattle.tree_model.specs.Signatures.{Signature, TreeOver, Alike}
 use Rattle.tree_model.specs.Trees.{at, IsFinite}
 use Rattle.tree_model.specs.Valuations.{Valuation}
 use Rattle.tree_model.proofs.Sameness.{finite_same}
-use Rattle.tree_facts.specs.Indexes.{above_index, above_indexes, constant, loop}
+use Rattle.tree_model.specs.OneNode.{constant, loop}
+use Rattle.tree_facts.specs.Indexes.{above_index, above_indexes}
 use Rattle.tree_facts.proofs.Indexes.{read_index_below, constant_finite, loop_infinite}
 use Rattle.tree_facts.proofs.Members.{contains_first, contains_later, contains_cases}
 use Rattle.flat_form.specs.declared.atom.Flat.{Flat}
@@ -21,6 +21,7 @@ use Rattle.flat_form.specs.Solved.{variable_of, IsOpen, IsSolved}
 use Rattle.flat_facts.proofs.Atoms.{atom_moves}
 use Rattle.flat_facts.proofs.Lists.{all_hold}
 use Rattle.flat_facts.proofs.Solutions.{solved_solution}
+use Rattle.cube_facts.proofs.Variables.{stands_in, stands_tells}
 use Rattle.cube_facts.proofs.FreshPart.{IsFresh, all_fresh_fails}
 
 -- above each index in the atoms
@@ -47,21 +48,6 @@ index_below atoms u k xs i = omega (arith, height_below atoms (VarTerm u (Furthe
 abbrev pub parts_above : List Part → ℕ
 parts_above [] = 0
 parts_above (part ∷ rest) = max (atoms_above part.basic) (parts_above rest)
-
--- whether a number stands in the list
-abbrev pub stands_in : List ℕ → ℕ → Bool
-stands_in [] v = false
-stands_in (u ∷ rest) v = cond (eqb u v) true (stands_in rest v)
-
-pub stands_tells : (xs : List ℕ) (v : ℕ) → ((stands_in xs v ≡ true) × Contains xs v) ⊎ ((stands_in xs v ≡ false) × (¬ Contains xs v))
-stands_tells [] v = inr (refl, λ i. omega (arith, i.1))
-stands_tells (u ∷ rest) v = elim (eqb_tells u v) [
-  | inl q ↦ inl (rw q.0 refl, subst (λ (z : ℕ). Contains (u ∷ rest) z) q.1 (contains_first u rest))
-  | inr q ↦ elim (stands_tells rest v) [
-    | inl h ↦ inl (rw q.0 h.0, contains_later u v rest h.1)
-    | inr h ↦ inr (rw q.0 h.0, λ i. elim (contains_cases u v rest i) [ inl e ↦ q.1 e | inr more ↦ h.1 more ])
-  ]
-]
 
 -- the variables with a finite atom
 abbrev marks : List Flat → List ℕ

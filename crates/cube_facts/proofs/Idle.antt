@@ -19,7 +19,8 @@ use Rattle.flat_facts.proofs.Atoms.{atom_moves}
 use Rattle.flat_facts.proofs.Lists.{holds_in, all_hold}
 use Rattle.cube_facts.specs.Settling.{IdleMayGo}
 use Rattle.cube_facts.proofs.FreshPart.{fresh_part_fails}
-use Rattle.cube_facts.proofs.FreshValues.{atoms_above, parts_above, stands_in, stands_tells, renewed, renewed_other, renewed_holds, renewed_fresh}
+use Rattle.cube_facts.proofs.Variables.{stands_in, stands_tells}
+use Rattle.cube_facts.proofs.FreshValues.{atoms_above, parts_above, renewed, renewed_other, renewed_holds, renewed_fresh}
 
 -- above all indexes of the first m values
 abbrev values_above : {σ : Signature} → Valuation σ → ℕ → ℕ

@@ -6,7 +6,6 @@ pub mod FreshValues
 pub mod Idle
 pub mod Joined
 pub mod Moved
-pub mod NewNumbers
 pub mod OldNumbers
 pub mod Opened
 pub mod PartsMove
@@ -15,7 +14,7 @@ pub mod Raised
 pub mod Raws
 pub mod ReducedOver
 pub mod RenumberedCubes
-pub mod Renumberings
 pub mod Settle
 pub mod Shape
 pub mod Solution
+pub mod Variables

@@ -14,7 +14,7 @@ use Rattle.flat_form.proofs.Symbols.{each_of}
 use Rattle.flat_facts.proofs.Follows.{over_below}
 use Rattle.cube_facts.specs.Fresh.{ReducedIsOver}
 use Rattle.cube_facts.proofs.Places.{side}
-use Rattle.cube_facts.proofs.FreshPart.{variable_occurs}
+use Rattle.cube_facts.proofs.Variables.{own_variable}
 use Rattle.cube_facts.proofs.Settle.{term_apart}
 
 module _ (m : ℕ) (base : List Flat) (part : Part) (solved : IsSolved base) (base_low : AllBelow m base) (reduced : IsReducedPart m base part)
@@ -49,7 +49,7 @@ module _ (m : ℕ) (base : List Flat) (part : Part) (solved : IsSolved base) (ba
     left_open = λ a i w. reduced.left_open a i;
     equal = λ u h i. let (u_low, right, last) = reduced.equal u h i in right_side u h i u_low right;
     unmarked = reduced.unmarked;
-    under = λ a i. under_below (suc (variable_of a)) (variable_of a) (omega arith) (low a i (variable_of a) (variable_occurs a));
+    under = λ a i. under_below (suc (variable_of a)) (variable_of a) (omega arith) (low a i (variable_of a) (own_variable a));
   }
 
 pub each_over : (cube : Cube) → IsReduced cube → (part : Part) → Contains cube.parts part → IsPartOver (cube.free + cube.outer) cube.basic part.basic

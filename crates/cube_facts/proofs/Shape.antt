@@ -8,19 +8,10 @@ use Rattle.tree_facts.proofs.Renumbering.{index-map}
 use Rattle.flat_form.specs.declared.atom.Flat.{Flat}
 use Rattle.flat_form.specs.declared.atom.Flat.TheVariants.{VarVar, VarTerm, Finite}
 use Rattle.flat_form.specs.Solved.{variable_of, IsOpen}
-use Rattle.flat_form.specs.Parts.{variables_of, renumbered, Under, top, below, IsPartOver}
+use Rattle.flat_form.specs.Parts.{renumbered, Under, top, below, IsPartOver}
 use Rattle.flat_facts.proofs.Renumbered.{split}
+use Rattle.cube_facts.proofs.Variables.{own_variable, variable_renumbered}
 use Rattle.cube_facts.specs.Renumbered.{StandsIn, MovesNumber, ShapeRenumbered}
-
-variable_renumbered : (f : ℕ → ℕ) (a : Flat) → variable_of (renumbered f a) ≡ f (variable_of a)
-variable_renumbered f (VarVar u h) = refl
-variable_renumbered f (VarTerm u s xs) = refl
-variable_renumbered f (Finite u) = refl
-
-pub own : (a : Flat) → Contains (variables_of a) (variable_of a)
-own (VarVar u h) = contains_first u (h ∷ [])
-own (VarTerm u s xs) = contains_first u xs
-own (Finite u) = contains_first u []
 
 abbrev right : Flat → ℕ
 right (VarVar u h) = h
@@ -36,10 +27,10 @@ module _ (m k : ℕ) (f g : ℕ → ℕ) (base part new_base new_part : List Fla
   one v w a b e = sym a ∙ (ap g e ∙ b)
 
   mine : (a : Flat) → Contains part a → MovesNumber m k f g (variable_of a)
-  mine a i = moves (variable_of a) (a, i, own a)
+  mine a i = moves (variable_of a) (a, i, own_variable a)
 
   base_own : (a : Flat) → Contains base a → g (f (variable_of a)) ≡ variable_of a
-  base_own a i = base_back (variable_of a) (a, i, own a)
+  base_own a i = base_back (variable_of a) (a, i, own_variable a)
 
   was_low : (a : Flat) → Contains part a → f (variable_of a) < k → variable_of a < m
   was_low a i w = elim (split (variable_of a) m) [ inl x ↦ x | inr le ↦ absurd (omega (arith, (mine a i).high le, w)) ]

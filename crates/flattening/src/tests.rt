@@ -82,18 +82,39 @@ impl Reading {
         Ok(Some(atom))
     }
 
-    // The formula that a connective or a quantifier begins.
+    // The formula that a connective begins.
     fn read_joint(&mut self, letter: u8) -> Result<Formula, Fail> {
-        let joint = match letter {
-            b'~' => Formula::Not(self.boxed()?),
-            b'&' => Formula::And(self.boxed()?, self.boxed()?),
-            b'|' => Formula::Or(self.boxed()?, self.boxed()?),
-            b'>' => Formula::Imp(self.boxed()?, self.boxed()?),
-            b'<' => Formula::Iff(self.boxed()?, self.boxed()?),
-            b'E' => Formula::Exists(self.variable(), self.boxed()?),
-            _ => Formula::Forall(self.variable(), self.boxed()?),
+        let left = self.boxed()?;
+        let right = self.boxed()?;
+        Ok(match letter {
+            b'&' => Formula::And(left, right),
+            b'|' => Formula::Or(left, right),
+            b'>' => Formula::Imp(left, right),
+            _ => Formula::Iff(left, right),
+        })
+    }
+
+    // The formula that a negation, a quantifier or a connective begins.
+    fn read_formula(&mut self, letter: u8) -> Result<Formula, Fail> {
+        match letter {
+            b'~' => Ok(Formula::Not(self.boxed()?)),
+            b'E' => Ok(Formula::Exists(self.variable(), self.boxed()?)),
+            b'A' => Ok(Formula::Forall(self.variable(), self.boxed()?)),
+            _ => self.read_joint(letter),
+        }
+    }
+
+    // Reads one letter.
+    fn read(&mut self, letter: u8) -> Result<(), Fail> {
+        if self.read_term(letter)? {
+            return Ok(());
+        }
+        let formula = match self.read_atom(letter)? {
+            Some(atom) => atom,
+            None => self.read_formula(letter)?,
         };
-        Ok(joint)
+        self.formulas.push(formula)?;
+        Ok(())
     }
 }
 
@@ -104,14 +125,7 @@ fn formula_of(alloc: Global, text: &str) -> Result<Formula, Fail> {
         formulas: Vec::new(alloc),
     };
     for &letter in text.as_bytes().iter().rev() {
-        if reading.read_term(letter)? {
-            continue;
-        }
-        let formula = match reading.read_atom(letter)? {
-            Some(atom) => atom,
-            None => reading.read_joint(letter)?,
-        };
-        reading.formulas.push(formula)?;
+        reading.read(letter)?;
     }
     Ok(reading.formula())
 }
@@ -132,54 +146,71 @@ fn equation(alloc: Global, left: usize, symbol: Symbol, right: &[usize]) -> Resu
     Ok(Flat::VarTerm(left, symbol, args))
 }
 
-// The cubes of the predicate at place 3: one with an outer variable and two parts, and one without either.
-fn cubes_of_call(alloc: Global) -> Result<Cubes, NoMemory> {
+fn one_atom(alloc: Global, atom: Flat) -> Result<Basic, NoMemory> {
     let mut basic = Basic::new(alloc);
-    basic.push(equation(alloc, 0, Symbol::Named(1), &[2])?)?;
-    basic.push(Flat::VarVar(2, 1))?;
-    let mut first = Basic::new(alloc);
-    first.push(equation(alloc, 2, Symbol::Named(2), &[1, 3])?)?;
-    first.push(Flat::Finite(3))?;
-    let mut second = Basic::new(alloc);
-    second.push(Flat::Finite(2))?;
+    basic.push(atom)?;
+    Ok(basic)
+}
+
+// An equation with an application, and another atom.
+fn two_atoms(alloc: Global, first: Flat, second: Flat) -> Result<Basic, NoMemory> {
+    let mut basic = one_atom(alloc, first)?;
+    basic.push(second)?;
+    Ok(basic)
+}
+
+fn parts_of_call(alloc: Global) -> Result<Parts, NoMemory> {
+    let pair = equation(alloc, 2, Symbol::Named(2), &[1, 3])?;
     let mut parts = Parts::new(alloc);
     parts.push(Part {
         inner: 1,
-        basic: first,
+        basic: two_atoms(alloc, pair, Flat::Finite(3))?,
     })?;
     parts.push(Part {
         inner: 0,
-        basic: second,
+        basic: one_atom(alloc, Flat::Finite(2))?,
     })?;
-    let mut other = Basic::new(alloc);
-    other.push(Flat::Finite(1))?;
-    let mut cubes = Cubes::new(alloc);
-    cubes.push(Cube {
+    Ok(parts)
+}
+
+fn first_of_call(alloc: Global) -> Result<Cube, NoMemory> {
+    let applied = equation(alloc, 0, Symbol::Named(1), &[2])?;
+    Ok(Cube {
         free: 2,
         outer: 1,
-        basic,
-        parts,
-    })?;
-    cubes.push(Cube {
+        basic: two_atoms(alloc, applied, Flat::VarVar(2, 1))?,
+        parts: parts_of_call(alloc)?,
+    })
+}
+
+fn second_of_call(alloc: Global) -> Result<Cube, NoMemory> {
+    Ok(Cube {
         free: 2,
         outer: 0,
-        basic: other,
+        basic: one_atom(alloc, Flat::Finite(1))?,
         parts: Parts::new(alloc),
-    })?;
+    })
+}
+
+// The cubes of the predicate at place 3: one with an outer variable and two parts, and one without either.
+fn cubes_of_call(alloc: Global) -> Result<Cubes, NoMemory> {
+    let mut cubes = Cubes::new(alloc);
+    cubes.push(first_of_call(alloc)?)?;
+    cubes.push(second_of_call(alloc)?)?;
     Ok(cubes)
 }
 
 // The cubes of a win within 2 moves.
 fn cubes_of_win(alloc: Global) -> Result<Cubes, NoMemory> {
-    let mut basic = Basic::new(alloc);
-    basic.push(equation(alloc, 0, Symbol::Named(1), &[1])?)?;
-    let mut cubes = Cubes::new(alloc);
-    cubes.push(Cube {
+    let applied = equation(alloc, 0, Symbol::Named(1), &[1])?;
+    let cube = Cube {
         free: 1,
         outer: 1,
-        basic,
+        basic: one_atom(alloc, applied)?,
         parts: Parts::new(alloc),
-    })?;
+    };
+    let mut cubes = Cubes::new(alloc);
+    cubes.push(cube)?;
     Ok(cubes)
 }
 
@@ -340,17 +371,31 @@ fn a_table_finds_its_keys_alone(rt: HostRuntime) -> Result<(), Fail> {
     Ok(())
 }
 
+// A formula and `X = X`, joined.
+fn nested(alloc: Global, formula: Formula, to_the_left: bool) -> Result<Formula, Fail> {
+    let nested = Boxed::new(alloc, formula)?;
+    let other = Boxed::new(alloc, Formula::Eq(Term::Var(0), Term::Var(0)))?;
+    Ok(if to_the_left {
+        Formula::And(nested, other)
+    } else {
+        Formula::And(other, nested)
+    })
+}
+
 // A thousand conjunctions of `X = X`, nested to the left or to the right.
 fn deep(alloc: Global, to_the_left: bool) -> Result<Formula, Fail> {
-    let mut formula = formula_of(alloc, "=XX")?;
+    let mut formula = Formula::Eq(Term::Var(0), Term::Var(0));
     for _ in 0..1000 {
-        let nested = Boxed::new(alloc, formula)?;
-        let other = Boxed::new(alloc, formula_of(alloc, "=XX")?)?;
-        formula = if to_the_left {
-            Formula::And(nested, other)
-        } else {
-            Formula::And(other, nested)
-        };
+        formula = nested(alloc, formula, to_the_left)?;
+    }
+    Ok(formula)
+}
+
+// A falsity behind a thousand negations.
+fn negations(alloc: Global) -> Result<Formula, Fail> {
+    let mut formula = Formula::False;
+    for _ in 0..1000 {
+        formula = Formula::Not(Boxed::new(alloc, formula)?);
     }
     Ok(formula)
 }
@@ -364,19 +409,21 @@ fn sizes(normal: &Normal) -> (usize, usize) {
     (part.basic.len(), part.parts.len())
 }
 
+// The sizes of what a formula with one free variable is flattened to.
+fn flattened_sizes(alloc: Global, formula: &Formula) -> Result<(usize, usize), Fail> {
+    let normal = normal_of(alloc, formula, &[0])?;
+    Ok(sizes(&normal))
+}
+
 #[test]
 fn a_deep_formula_is_flattened(rt: HostRuntime) -> Result<(), Fail> {
-    for to_the_left in [true, false] {
-        let formula = deep(rt.alloc(), to_the_left)?;
-        let normal = normal_of(rt.alloc(), &formula, &[0])?;
-        assert_eq!(rt; sizes(&normal), (1001, 0));
-    }
-    let mut negated = Formula::False;
-    for _ in 0..1000 {
-        negated = Formula::Not(Boxed::new(rt.alloc(), negated)?);
-    }
-    let normal = normal_of(rt.alloc(), &negated, &[0])?;
-    assert_eq!(rt; sizes(&normal), (0, 1));
+    let alloc = rt.alloc();
+    let left = flattened_sizes(alloc, &deep(alloc, true)?)?;
+    assert_eq!(rt; left, (1001, 0));
+    let right = flattened_sizes(alloc, &deep(alloc, false)?)?;
+    assert_eq!(rt; right, (1001, 0));
+    let negated = flattened_sizes(alloc, &negations(alloc)?)?;
+    assert_eq!(rt; negated, (0, 1));
     Ok(())
 }
 

@@ -7,14 +7,12 @@ use Rattle.formula_ast.specs.declared.statement.Statement.{Statement}
 use Rattle.formula_ast.specs.Tokens.{Stream, end, token, tokens_at, Word}
 use Rattle.formula_grammar.specs.declared.fault.Fault.{Fault}
 use Rattle.formula_grammar.specs.declared.fault.FaultKind.TheVariants.{NotBuilt}
-use Rattle.formula_grammar.specs.Written.{WrittenFormula, equal, exists, group, and, WrittenStatement, symbols, predicate, solve}
+use Rattle.formula_grammar.specs.Written.{WrittenFormula, WrittenStatement, symbols, predicate, solve}
 use Rattle.formula_grammar.specs.Grammar as grammar
 use Rattle.formula_grammar.specs.Begins.{BeginsWith}
 use Rattle.formula_grammar.specs.FirstFault.{file_fault, most_bytes}
 use Rattle.formula_grammar.specs.Lawful.{is_bound, MayAsk, AreLawful}
 use Rattle.formula_grammar.specs.Meaning.{IsStatement, Makes}
-use Rattle.formula_grammar.specs.declared.shape.Shape.{Shape}
-use Rattle.formula_grammar.specs.declared.shape.Shape.TheVariants.{Equation, Equations, Group, Question, Other}
 
 -- a text of these words, up to its end
 pub record IsWritten (bytes : List ℕ) (words : List Word) : Type 0 where
@@ -22,37 +20,11 @@ pub record IsWritten (bytes : List ℕ) (words : List Word) : Type 0 where
   pub stop : ℕ
   pub tokens : BeginsWith bytes (tokens_at bytes 0) words (end stop)
 
--- ---- what is answered by now: questions whether equations have a solution
-
--- of equations that are joined by `&`: one more
-abbrev pub joined_shape : Shape → Shape → Shape
-joined_shape Equation Equation = Equations
-joined_shape Equations Equation = Equations
-joined_shape x y = Other
-
-abbrev pub grouped_shape : Shape → Shape
-grouped_shape Equation = Group
-grouped_shape Equations = Group
-grouped_shape x = Other
-
-abbrev pub asked_shape : Shape → Shape
-asked_shape Equation = Question
-asked_shape Group = Question
-asked_shape x = Other
-
--- whether a formula is one equation, equations joined by `&`, these in parentheses, or one of the first and the last behind
--- an existential quantifier
-abbrev pub shape_of : WrittenFormula → Shape
-shape_of (equal t u) = Equation
-shape_of (and f g) = joined_shape (shape_of f) (shape_of g)
-shape_of (group f) = grouped_shape (shape_of f)
-shape_of (exists xs f) = asked_shape (shape_of f)
-shape_of f = Other
-
+-- what is answered by now: closed questions in files that define no predicate, so that they call none
 abbrev pub IsBuilt : WrittenStatement → Type 0
 IsBuilt (symbols ds) = Unit {0}
 IsBuilt (predicate p xs f) = ⊥
-IsBuilt (solve f) = (shape_of f ≡ Question) × (is_bound [] f ≡ true)
+IsBuilt (solve f) = is_bound [] f ≡ true
 
 -- ---- files and formulas
 

@@ -3,14 +3,12 @@
 
 mod fault;
 mod laws;
-mod shape;
 
 pub use fault::{Fault, FaultKind};
 pub use laws::{
     at_most_one_outcome, at_most_one_reading, faults_stand_right, files_are_well_formed,
     lawful_is_faultless,
 };
-pub use shape::Shape;
 
 #[cfg(test)]
 mod tests;

@@ -56,35 +56,43 @@ fn popped(alloc: Global, stack: &mut Vec<Formula>) -> Result<Boxed<Formula>, Fai
     }
 }
 
+// What joins the last two formulas of a stack.
+fn joined(alloc: Global, stack: &mut Vec<Formula>, mark: u8) -> Result<Formula, Fail> {
+    let right = popped(alloc, stack)?;
+    let left = popped(alloc, stack)?;
+    Ok(match mark {
+        b'&' => Formula::And(left, right),
+        b'|' => Formula::Or(left, right),
+        b'>' => Formula::Imp(left, right),
+        _ => Formula::Iff(left, right),
+    })
+}
+
+// The formula that a byte of postfix notation stands for.
+fn next(alloc: Global, stack: &mut Vec<Formula>, byte: u8) -> Result<Formula, Fail> {
+    match byte {
+        b't' => Ok(Formula::True),
+        b'f' => Ok(Formula::False),
+        b'x' => Ok(Formula::Eq(Term::Var(0), Term::Var(0))),
+        b'y' => Ok(Formula::Eq(Term::Var(1), Term::Var(1))),
+        b'z' => Ok(Formula::Eq(Term::Var(0), Term::Var(1))),
+        b'~' => Ok(Formula::Not(popped(alloc, stack)?)),
+        b'E' => Ok(Formula::Exists(0, popped(alloc, stack)?)),
+        b'A' => Ok(Formula::Forall(0, popped(alloc, stack)?)),
+        b'e' => Ok(Formula::Exists(1, popped(alloc, stack)?)),
+        b'a' => Ok(Formula::Forall(1, popped(alloc, stack)?)),
+        mark => joined(alloc, stack, mark),
+    }
+}
+
 // The formula that is written in postfix notation: `t` and `f` for truth and falsity, `x`, `y` and `z` for X = X, Y = Y and
 // X = Y, `~` behind what is negated, `E` and `A` for quantifiers over X, `e` and `a` for quantifiers over Y, and the marks
 // `&`, `|`, `>` and `=` behind both sides.
 fn formula(alloc: Global, code: &str) -> Result<Formula, Fail> {
     let mut stack = Vec::new(alloc);
-    for byte in code.as_bytes() {
-        let next = match *byte {
-            b't' => Formula::True,
-            b'f' => Formula::False,
-            b'x' => Formula::Eq(Term::Var(0), Term::Var(0)),
-            b'y' => Formula::Eq(Term::Var(1), Term::Var(1)),
-            b'z' => Formula::Eq(Term::Var(0), Term::Var(1)),
-            b'~' => Formula::Not(popped(alloc, &mut stack)?),
-            b'E' => Formula::Exists(0, popped(alloc, &mut stack)?),
-            b'A' => Formula::Forall(0, popped(alloc, &mut stack)?),
-            b'e' => Formula::Exists(1, popped(alloc, &mut stack)?),
-            b'a' => Formula::Forall(1, popped(alloc, &mut stack)?),
-            mark => {
-                let right = popped(alloc, &mut stack)?;
-                let left = popped(alloc, &mut stack)?;
-                match mark {
-                    b'&' => Formula::And(left, right),
-                    b'|' => Formula::Or(left, right),
-                    b'>' => Formula::Imp(left, right),
-                    _ => Formula::Iff(left, right),
-                }
-            }
-        };
-        stack.push(next)?;
+    for &byte in code.as_bytes() {
+        let formula = next(alloc, &mut stack, byte)?;
+        stack.push(formula)?;
     }
     match stack.pop() {
         Some(f) => Ok(f),
@@ -219,56 +227,90 @@ fn parentheses_stand_where_they_must_and_nowhere_else(rt: HostRuntime) -> Result
     Ok(())
 }
 
-#[test]
-fn each_atom_is_written(rt: HostRuntime) -> Result<(), Fail> {
-    let alloc = rt.alloc();
-    let sig = declared(alloc)?;
+fn equation(alloc: Global) -> Result<Formula, Fail> {
+    let right = applied(alloc, Symbol::Named(0), &[1])?;
+    Ok(Formula::Eq(Term::Var(0), right))
+}
+
+fn quantified(alloc: Global) -> Result<Formula, Fail> {
+    Ok(Formula::Exists(1, boxed(alloc, equation(alloc)?)?))
+}
+
+fn negated_equation(alloc: Global) -> Result<Formula, Fail> {
+    let left = applied(alloc, Symbol::Named(1), &[0, 1])?;
+    let right = applied(alloc, Symbol::Named(2), &[])?;
+    Ok(Formula::Differ(left, right))
+}
+
+// The variable Y and the further symbol of the least index.
+fn two_arguments(alloc: Global) -> Result<Terms, Fail> {
     let mut arguments = Terms::new(alloc);
     arguments.push(Term::Var(1))?;
     arguments.push(applied(alloc, Symbol::Further(0), &[])?)?;
-    let constant = applied(alloc, Symbol::Named(2), &[])?;
-    let one = Formula::Eq(Term::Var(0), applied(alloc, Symbol::Named(0), &[1])?);
-    let quantified = Formula::Exists(1, boxed(alloc, one)?);
-    assert_eq!(rt;
-        checked_print(alloc, &sig, &quantified)?.as_str(),
-        "exists Y: X = f(Y)"
-    );
-    let differ = Formula::Differ(
-        applied(alloc, Symbol::Named(1), &[0, 1])?,
-        constant.copy(alloc)?,
-    );
-    assert_eq!(rt;
-        checked_print(alloc, &sig, &differ)?.as_str(),
-        "g(X, Y) != a"
-    );
-    let further = applied(alloc, Symbol::Further(18446744073709551615), &[1, 1, 1])?;
-    let finite = checked_print(alloc, &sig, &Formula::Finite(further))?;
-    assert_eq!(rt; finite.as_str(), "finite($18446744073709551615(Y, Y, Y))");
-    let call = Formula::Call(3, arguments);
-    assert_eq!(rt; checked_print(alloc, &sig, &call)?.as_str(), "p(Y, $0)");
-    let alone = Formula::Call(4, Terms::new(alloc));
-    assert_eq!(rt; checked_print(alloc, &sig, &alone)?.as_str(), "q");
-    let lost = Formula::Win(3, 0, Term::Var(0));
-    assert_eq!(rt; checked_print(alloc, &sig, &lost)?.as_str(), "win(p, 0, X)");
-    let long = Formula::Win(3, 1000, constant);
-    assert_eq!(rt;
-        checked_print(alloc, &sig, &long)?.as_str(),
-        "win(p, 1000, a)"
-    );
+    Ok(arguments)
+}
+
+fn finiteness(alloc: Global) -> Result<Formula, Fail> {
+    let greatest = Symbol::Further(18446744073709551615);
+    Ok(Formula::Finite(applied(alloc, greatest, &[1, 1, 1])?))
+}
+
+fn won(alloc: Global) -> Result<Formula, Fail> {
+    let place = applied(alloc, Symbol::Named(2), &[])?;
+    Ok(Formula::Win(3, 1000, place))
+}
+
+// An atom of each kind.
+fn atom(alloc: Global, number: usize) -> Result<Formula, Fail> {
+    match number {
+        0 => quantified(alloc),
+        1 => negated_equation(alloc),
+        2 => finiteness(alloc),
+        3 => Ok(Formula::Call(3, two_arguments(alloc)?)),
+        4 => Ok(Formula::Call(4, Terms::new(alloc))),
+        5 => Ok(Formula::Win(3, 0, Term::Var(0))),
+        _ => won(alloc),
+    }
+}
+
+#[test]
+fn each_atom_is_written(rt: HostRuntime) -> Result<(), Fail> {
+    let sig = declared(rt.alloc())?;
+    for (number, wanted) in [
+        "exists Y: X = f(Y)",
+        "g(X, Y) != a",
+        "finite($18446744073709551615(Y, Y, Y))",
+        "p(Y, $0)",
+        "q",
+        "win(p, 0, X)",
+        "win(p, 1000, a)",
+    ]
+    .iter()
+    .enumerate()
+    {
+        let atom = atom(rt.alloc(), number)?;
+        let text = checked_print(rt.alloc(), &sig, &atom)?;
+        assert_eq!(rt; text.as_str(), *wanted);
+    }
     Ok(())
+}
+
+// A formula and a truth, joined.
+fn nested(alloc: Global, f: Formula, to_the_left: bool) -> Result<Formula, Fail> {
+    let nested = boxed(alloc, f)?;
+    let other = boxed(alloc, Formula::True)?;
+    Ok(if to_the_left {
+        Formula::And(nested, other)
+    } else {
+        Formula::And(other, nested)
+    })
 }
 
 // The formula with a thousand marks, nested to the left or to the right.
 fn deep(alloc: Global, to_the_left: bool) -> Result<Formula, Fail> {
     let mut f = Formula::True;
     for _ in 0..1000 {
-        let nested = boxed(alloc, f)?;
-        let other = boxed(alloc, Formula::True)?;
-        f = if to_the_left {
-            Formula::And(nested, other)
-        } else {
-            Formula::And(other, nested)
-        };
+        f = nested(alloc, f, to_the_left)?;
     }
     Ok(f)
 }
@@ -321,23 +363,41 @@ fn assigned(
     Ok(print_assignment(alloc, &sig, names, &assignment)?)
 }
 
+fn name(alloc: Global, name: &str) -> Result<Names, Fail> {
+    let mut names = Names::new(alloc);
+    add(alloc, &mut names, name)?;
+    Ok(names)
+}
+
+fn a_loop(alloc: Global) -> Result<Vec<Node>, Fail> {
+    let mut nodes = Vec::new(alloc);
+    nodes.push(node(alloc, Symbol::Further(0), &[0])?)?;
+    Ok(nodes)
+}
+
+fn shared_nodes(alloc: Global) -> Result<Vec<Node>, Fail> {
+    let mut nodes = Vec::new(alloc);
+    nodes.push(node(alloc, Symbol::Named(1), &[1, 2])?)?;
+    nodes.push(node(alloc, Symbol::Named(2), &[])?)?;
+    nodes.push(node(alloc, Symbol::Named(0), &[0])?)?;
+    Ok(nodes)
+}
+
 #[test]
 fn an_assignment_is_written(rt: HostRuntime) -> Result<(), Fail> {
     let alloc = rt.alloc();
-    let mut loops = Vec::new(alloc);
-    loops.push(node(alloc, Symbol::Further(0), &[0])?)?;
-    let mut names = Names::new(alloc);
-    add(alloc, &mut names, "X")?;
-    let text = assigned(alloc, &names, loops, &[0])?;
+    let text = assigned(alloc, &name(alloc, "X")?, a_loop(alloc)?, &[0])?;
     assert_eq!(rt; text.as_str(), "exists V0: (V0 = $0(V0) & X = V0)");
-    let mut shared = Vec::new(alloc);
-    shared.push(node(alloc, Symbol::Named(1), &[1, 2])?)?;
-    shared.push(node(alloc, Symbol::Named(2), &[])?)?;
-    shared.push(node(alloc, Symbol::Named(0), &[0])?)?;
-    let mut numbered = Names::new(alloc);
-    add(alloc, &mut numbered, "V1")?;
-    add(alloc, &mut numbered, "Y")?;
-    let text = assigned(alloc, &numbered, shared, &[2, 2])?;
+    Ok(())
+}
+
+// A name that the text would choose for a node is taken.
+#[test]
+fn a_node_has_no_name_that_is_taken(rt: HostRuntime) -> Result<(), Fail> {
+    let alloc = rt.alloc();
+    let mut names = name(alloc, "V1")?;
+    add(alloc, &mut names, "Y")?;
+    let text = assigned(alloc, &names, shared_nodes(alloc)?, &[2, 2])?;
     let wanted = "exists V0 V2 V3: (V0 = g(V2, V3) & V2 = a & V3 = f(V0) & V1 = V3 & Y = V3)";
     assert_eq!(rt; text.as_str(), wanted);
     Ok(())

@@ -31,7 +31,7 @@ use Rattle.formula_reader.specs.Input.{Input, left_of, words_of, words_left, IsP
 use Rattle.formula_reader.specs.Faults.{fault_of, Refuses}
 use Rattle.formula_reader.specs.Reads.{ReadsStatement}
 use Rattle.formula_reader.specs.Refusals.{IsRefusedWith}
-use Rattle.formula_reader.specs.declared.parsed.Parsed.{Parsed}
+use Rattle.formula_ast.specs.declared.formula.Formula.{Formula}
 use Rattle.formula_reader.proofs.FormulaReading.{ReadsFormula}
 use Rattle.formula_reader.proofs.StatementReading.{named, stands}
 use Rattle.formula_reader.proofs.Places.{words_begin}
@@ -311,9 +311,9 @@ some_of (Some n) h e = cc
 -- ---- one formula
 
 -- the text is a formula up to its end
-pub formula_read : (law : LawfulFormulasAreFaultless) (σ : Signature) (bytes : List ℕ) (old new : Input) (p : Parsed) (s : Statement) → length bytes ≤ 1048576
+pub formula_read : (law : LawfulFormulasAreFaultless) (σ : Signature) (bytes : List ℕ) (old new : Input) (p : Formula) (s : Statement) → length bytes ≤ 1048576
     → old ≡ record { bytes = bytes; at = 0; pending = None; joints = 0; names = []; loose = false } → formula_fault σ bytes ≡ None → words_left new ≡ []
-    → ReadsFormula g.formula σ [] old new p → s.names ≡ new.names → s.body ≡ p.formula → reading.ReadsAsFormula σ bytes s
+    → ReadsFormula g.formula σ [] old new p → s.names ≡ new.names → s.body ≡ p → reading.ReadsAsFormula σ bytes s
 formula_read law σ bytes old new p s short begins none left r names body =
     let w = written_of bytes _ (m.formula m.open_place ∷ []) short (sym (formula_fault_from σ bytes short) ∙ none) in
     let d = subst (λ i. Derives (g.formula r.written ∷ []) (words_left i)) begins (r.reads [] (subst (λ ws. Derives [] ws) (sym left) g.nothing_left)) in

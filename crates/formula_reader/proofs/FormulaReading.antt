@@ -4,7 +4,6 @@ use Rattle.std.proofs.lemmas.List.{append-nil, map_push}
 use Rattle.tree_model.specs.Signatures.{Signature}
 use Rattle.formula_ast.specs.Forms as form
 use Rattle.formula_ast.specs.Forms.{Form, form_of}
-use Rattle.formula_grammar.specs.declared.shape.Shape.TheVariants.{Other}
 use Rattle.formula_grammar.specs.Written.{Text, WrittenFormula, no, group, and, or, imp, iff, all_of, some_of}
 use Rattle.formula_ast.specs.declared.token.TokenKind.TheVariants as k
 use Rattle.formula_ast.specs.declared.token.TokenKind.{TokenKind}
@@ -13,26 +12,25 @@ use Rattle.formula_grammar.specs.Grammar.{Part, Derives, word, variables}
 use Rattle.formula_grammar.specs.Machine.{Place, deeper}
 use Rattle.formula_grammar.specs.Lawful.{is_bound}
 use Rattle.formula_grammar.specs.Meaning.{first_occurrences, variables_in, number_in, behind, Stands}
-use Rattle.formula_grammar.specs.Reading.{grouped_shape, joined_shape, asked_shape}
 use Rattle.formula_reader.specs.declared.parsed.Joint.{Joint}
 use Rattle.formula_reader.specs.declared.parsed.Joint.TheVariants as joint
-use Rattle.formula_reader.specs.declared.parsed.Parsed.{Parsed}
+use Rattle.formula_ast.specs.declared.formula.Formula.{Formula}
 use Rattle.std.specs.Borrow.{Bor}
 use Rattle.formula_reader.specs.Input.{Input, words_left, texts_of}
 use Rattle.formula_reader.specs.Faults.{KeepsNames}
-use Rattle.formula_reader.specs.Joints.{joint_form, joint_shape}
+use Rattle.formula_reader.specs.Joints.{joint_form}
 use Rattle.formula_reader.proofs.NamesRead.{first_append, still, loose_both}
 use Rattle.formula_reader.specs.Reads.{Reads, ReadsAs, ReadsQuantified, IsParsed}
 
 -- ---- what was read
 
 -- the formula was read since, whatever stands round it
-pub record Holds (σ : Signature) (xs : List Text) (old new : Input) (w : WrittenFormula) (p : Parsed) : Type 0 where
+pub record Holds (σ : Signature) (xs : List Text) (old new : Input) (w : WrittenFormula) (p : Formula) : Type 0 where
   pub names : new.names ≡ first_occurrences old.names (variables_in w)
   pub loose : new.loose ≡ (old.loose || not (is_bound xs w))
   pub is : (more : List Text) → IsParsed σ (new.names ++ more) w p
 
-abbrev pub ReadsFormula : (WrittenFormula → Part) → Signature → List Text → Input → Input → Parsed → Type 0
+abbrev pub ReadsFormula : (WrittenFormula → Part) → Signature → List Text → Input → Input → Formula → Type 0
 ReadsFormula part σ xs old new p = ReadsAs part variables_in (is_bound xs) (λ names w q. IsParsed σ names w q) old new p
 
 abbrev pub written_joint : Joint → WrittenFormula → WrittenFormula → WrittenFormula
@@ -53,64 +51,64 @@ joint_bound xs joint.Or v w = refl
 joint_bound xs joint.Imp v w = refl
 joint_bound xs joint.Iff v w = refl
 
-joint_is : (σ : Signature) (names : List Text) (j : Joint) (v w : WrittenFormula) (p q r : Parsed)
-    → form_of r.formula ≡ joint_form j (form_of p.formula) (form_of q.formula) → r.shape ≡ joint_shape j p.shape q.shape
+joint_is : (σ : Signature) (names : List Text) (j : Joint) (v w : WrittenFormula) (p q r : Formula)
+    → form_of r ≡ joint_form j (form_of p) (form_of q)
     → IsParsed σ names v p → IsParsed σ names w q → IsParsed σ names (written_joint j v w) r
-joint_is σ names joint.And v w p q r f s a b = ((form_of p.formula, form_of q.formula, f, a.0, b.0), cc)
-joint_is σ names joint.Or v w p q r f s a b = ((form_of p.formula, form_of q.formula, f, a.0, b.0), s)
-joint_is σ names joint.Imp v w p q r f s a b = ((form_of p.formula, form_of q.formula, f, a.0, b.0), s)
-joint_is σ names joint.Iff v w p q r f s a b = ((form_of p.formula, form_of q.formula, f, a.0, b.0), s)
+joint_is σ names joint.And v w p q r f a b = (form_of p, form_of q, f, a, b)
+joint_is σ names joint.Or v w p q r f a b = (form_of p, form_of q, f, a, b)
+joint_is σ names joint.Imp v w p q r f a b = (form_of p, form_of q, f, a, b)
+joint_is σ names joint.Iff v w p q r f a b = (form_of p, form_of q, f, a, b)
 
 module _ {σ : Signature} {xs : List Text} where
-  pub read_holds : {part : WrittenFormula → Part} {old new : Input} {p : Parsed} (r : ReadsFormula part σ xs old new p) → Holds σ xs old new r.written p
+  pub read_holds : {part : WrittenFormula → Part} {old new : Input} {p : Formula} (r : ReadsFormula part σ xs old new p) → Holds σ xs old new r.written p
   read_holds r = record { names = r.names; loose = r.loose; is = r.is }
 
-  pub holds_read : {part : WrittenFormula → Part} {old new : Input} {w : WrittenFormula} {p : Parsed}
+  pub holds_read : {part : WrittenFormula → Part} {old new : Input} {w : WrittenFormula} {p : Formula}
       → Holds σ xs old new w p → Reads (part w) old new → ReadsFormula part σ xs old new p
   holds_read {w = w} h d = record { written = w; reads = d; names = h.names; loose = h.loose; is = h.is }
 
-  pub holds_behind : {old mid new : Input} {w : WrittenFormula} {p : Parsed} → KeepsNames old mid → Holds σ xs mid new w p → Holds σ xs old new w p
+  pub holds_behind : {old mid new : Input} {w : WrittenFormula} {p : Formula} → KeepsNames old mid → Holds σ xs mid new w p → Holds σ xs old new w p
   holds_behind {w = w} k h = record {
     names = h.names ∙ ap (λ l. first_occurrences l (variables_in w)) k.names;
     loose = h.loose ∙ ap (λ b. b || not (is_bound xs w)) k.loose;
     is = h.is;
   }
 
-  pub holds_before : {old mid new : Input} {w : WrittenFormula} {p : Parsed} → Holds σ xs old mid w p → KeepsNames mid new → Holds σ xs old new w p
+  pub holds_before : {old mid new : Input} {w : WrittenFormula} {p : Formula} → Holds σ xs old mid w p → KeepsNames mid new → Holds σ xs old new w p
   holds_before {w = w} {p = p} h k = record {
     names = k.names ∙ h.names;
     loose = k.loose ∙ h.loose;
     is = λ more. subst (λ l. IsParsed σ (l ++ more) w p) (sym k.names) (h.is more);
   }
 
-  pub joins : (j : Joint) {old mid new : Input} {v w : WrittenFormula} {p q r : Parsed} → Holds σ xs old mid v p → Holds σ xs mid new w q
-      → form_of r.formula ≡ joint_form j (form_of p.formula) (form_of q.formula) → r.shape ≡ joint_shape j p.shape q.shape
+  pub joins : (j : Joint) {old mid new : Input} {v w : WrittenFormula} {p q r : Formula} → Holds σ xs old mid v p → Holds σ xs mid new w q
+      → form_of r ≡ joint_form j (form_of p) (form_of q)
       → Holds σ xs old new (written_joint j v w) r
-  joins j {old} {mid} {new} {v} {w} {p} {q} {r} a b f s = record {
+  joins j {old} {mid} {new} {v} {w} {p} {q} {r} a b f = record {
     names = b.names ∙ ap (λ l. first_occurrences l (variables_in w)) a.names ∙ sym (first_append old.names (variables_in v) (variables_in w))
         ∙ ap (first_occurrences old.names) (sym (joint_variables j v w));
     loose = b.loose ∙ ap (λ l. l || not (is_bound xs w)) a.loose ∙ loose_both old.loose (is_bound xs v) (is_bound xs w)
         ∙ ap (λ x. old.loose || not x) (sym (joint_bound xs j v w));
-    is = λ more. joint_is σ (new.names ++ more) j v w p q r f s (still (λ l. IsParsed σ l v p) mid.names new.names (variables_in w) b.names a.is more) (b.is more);
+    is = λ more. joint_is σ (new.names ++ more) j v w p q r f (still (λ l. IsParsed σ l v p) mid.names new.names (variables_in w) b.names a.is more) (b.is more);
   }
 
-  pub negates : {old new : Input} {w : WrittenFormula} {p q : Parsed} → Holds σ xs old new w p → form_of q.formula ≡ form.no (form_of p.formula) → q.shape ≡ Other
+  pub negates : {old new : Input} {w : WrittenFormula} {p q : Formula} → Holds σ xs old new w p → form_of q ≡ form.no (form_of p)
       → Holds σ xs old new (no w) q
-  negates {p = p} h f s = record { names = h.names; loose = h.loose; is = λ more. ((form_of p.formula, f, (h.is more).0), s) }
+  negates {p = p} h f = record { names = h.names; loose = h.loose; is = λ more. (form_of p, f, h.is more) }
 
-  pub groups : {old new : Input} {w : WrittenFormula} {p q : Parsed} → Holds σ xs old new w p → q.formula ≡ p.formula → q.shape ≡ grouped_shape p.shape
+  pub groups : {old new : Input} {w : WrittenFormula} {p q : Formula} → Holds σ xs old new w p → q ≡ p
       → Holds σ xs old new (group w) q
-  groups {new = new} {w = w} h f s = record {
+  groups {new = new} {w = w} h f = record {
     names = h.names;
     loose = h.loose;
-    is = λ more. (subst (λ x. Stands σ (new.names ++ more) w (form_of x)) (sym f) (h.is more).0, s ∙ ap grouped_shape (h.is more).1);
+    is = λ more. subst (λ x. Stands σ (new.names ++ more) w (form_of x)) (sym f) (h.is more);
   }
 
 -- ---- what is joined from the left
 
 -- The first formulas of a list were read, with what goes on behind them.
 pub record ReadsFirst (tail : List WrittenFormula → Part) (part : WrittenFormula → Part) (many : WrittenFormula → List WrittenFormula → WrittenFormula)
-    (σ : Signature) (xs : List Text) (old new : Input) (p : Parsed) : Type 0 where
+    (σ : Signature) (xs : List Text) (old new : Input) (p : Formula) : Type 0 where
   pub written : WrittenFormula
   pub reads : (gs : List WrittenFormula) (s : List Part) → Derives (tail gs ∷ s) (words_left new) → Derives (part (many written gs) ∷ s) (words_left old)
   pub holds : Holds σ xs old new written p
@@ -128,7 +126,7 @@ pub record ReadsBound (outer : List Text) (old new : Input) (bound : List Text) 
 
 -- ---- loops
 
-module _ {σ : Signature} {xs : List Text} {old new : Input} {p : Parsed} where
+module _ {σ : Signature} {xs : List Text} {old new : Input} {p : Formula} where
   pub first_conjunct : ReadsFormula g.unary σ xs old new p → ReadsFirst g.and_tail g.conjunction all_of σ xs old new p
   first_conjunct r = record { written = r.written; reads = λ gs s d. g.is_conjunction refl (r.reads (g.and_tail gs ∷ s) d); holds = read_holds r }
 
@@ -141,39 +139,39 @@ module _ {σ : Signature} {xs : List Text} {old new : Input} {p : Parsed} where
   pub all_disjuncts : ReadsFirst g.or_tail g.disjunction some_of σ xs old new p → ReadsFormula g.disjunction σ xs old new p
   all_disjuncts r = holds_read r.holds (λ s d. r.reads [] s (g.no_or d))
 
-module _ {σ : Signature} {xs : List Text} {old mid taken new : Input} {p q r : Parsed} where
+module _ {σ : Signature} {xs : List Text} {old mid taken new : Input} {p q r : Formula} where
   pub next_conjunct : ReadsFirst g.and_tail g.conjunction all_of σ xs old mid p → Reads (g.mark k.Amp) mid taken → KeepsNames mid taken
-      → ReadsFormula g.unary σ xs taken new q → form_of r.formula ≡ form.and (form_of p.formula) (form_of q.formula) → r.shape ≡ joined_shape p.shape q.shape
+      → ReadsFormula g.unary σ xs taken new q → form_of r ≡ form.and (form_of p) (form_of q)
       → ReadsFirst g.and_tail g.conjunction all_of σ xs old new r
-  next_conjunct a amp keeps b f s = record {
+  next_conjunct a amp keeps b f = record {
     written = and a.written b.written;
     reads = λ gs u d. a.reads (b.written ∷ gs) u (g.next_and (amp _ (b.reads _ d)));
-    holds = joins joint.And (holds_before a.holds keeps) (read_holds b) f s;
+    holds = joins joint.And (holds_before a.holds keeps) (read_holds b) f;
   }
 
   pub next_disjunct : ReadsFirst g.or_tail g.disjunction some_of σ xs old mid p → Reads (g.mark k.Bar) mid taken → KeepsNames mid taken
-      → ReadsFormula g.conjunction σ xs taken new q → form_of r.formula ≡ form.or (form_of p.formula) (form_of q.formula) → r.shape ≡ Other
+      → ReadsFormula g.conjunction σ xs taken new q → form_of r ≡ form.or (form_of p) (form_of q)
       → ReadsFirst g.or_tail g.disjunction some_of σ xs old new r
-  next_disjunct a bar keeps b f s = record {
+  next_disjunct a bar keeps b f = record {
     written = or a.written b.written;
     reads = λ gs u d. a.reads (b.written ∷ gs) u (g.next_or (bar _ (b.reads _ d)));
-    holds = joins joint.Or (holds_before a.holds keeps) (read_holds b) f s;
+    holds = joins joint.Or (holds_before a.holds keeps) (read_holds b) f;
   }
 
-module _ (σ : Signature) {xs : List Text} {old mid taken new : Input} {p q r : Parsed} where
+module _ (σ : Signature) {xs : List Text} {old mid taken new : Input} {p q r : Formula} where
   pub both_imply : ReadsFormula g.disjunction σ xs old mid p → Reads (g.mark k.Arrow) mid taken → KeepsNames mid taken → ReadsFormula g.implication σ xs taken new q
-      → form_of r.formula ≡ form.imp (form_of p.formula) (form_of q.formula) → r.shape ≡ Other → ReadsFormula g.implication σ xs old new r
-  both_imply a arrow keeps b f s =
-      holds_read (joins joint.Imp (holds_before (read_holds a) keeps) (read_holds b) f s)
+      → form_of r ≡ form.imp (form_of p) (form_of q) → ReadsFormula g.implication σ xs old new r
+  both_imply a arrow keeps b f =
+      holds_read (joins joint.Imp (holds_before (read_holds a) keeps) (read_holds b) f)
       (λ u d. g.is_implication refl (a.reads _ (g.some_imp (arrow _ (b.reads _ d)))))
 
   pub both_equal : ReadsFormula g.implication σ xs old mid p → Reads (g.mark k.DoubleArrow) mid taken → KeepsNames mid taken → ReadsFormula g.implication σ xs taken new q
-      → form_of r.formula ≡ form.iff (form_of p.formula) (form_of q.formula) → r.shape ≡ Other → ReadsFormula g.formula σ xs old new r
-  both_equal a arrow keeps b f s =
-      holds_read (joins joint.Iff (holds_before (read_holds a) keeps) (read_holds b) f s)
+      → form_of r ≡ form.iff (form_of p) (form_of q) → ReadsFormula g.formula σ xs old new r
+  both_equal a arrow keeps b f =
+      holds_read (joins joint.Iff (holds_before (read_holds a) keeps) (read_holds b) f)
       (λ u d. g.is_formula refl (a.reads _ (g.some_iff (arrow _ (b.reads _ d)))))
 
-module _ (σ : Signature) {xs : List Text} {old new : Input} {p : Parsed} where
+module _ (σ : Signature) {xs : List Text} {old new : Input} {p : Formula} where
   pub plain_implication : ReadsFormula g.disjunction σ xs old new p → ReadsFormula g.implication σ xs old new p
   plain_implication r = holds_read (read_holds r) (λ u d. g.is_implication refl (r.reads _ (g.no_imp d)))
 
@@ -182,44 +180,44 @@ module _ (σ : Signature) {xs : List Text} {old new : Input} {p : Parsed} where
 
 -- ---- formulas of the strongest kind
 
-pub not_read : (σ : Signature) {xs : List Text} {old mid new : Input} {p q : Parsed} → Reads (g.mark k.Tilde) old mid → KeepsNames old mid → ReadsFormula g.unary σ xs mid new p
-    → form_of q.formula ≡ form.no (form_of p.formula) → q.shape ≡ Other → ReadsFormula g.unary σ xs old new q
-not_read σ tilde keeps r f s = holds_read (negates (holds_behind keeps (read_holds r)) f s) (λ u d. g.is_not (tilde _ (r.reads _ d)))
+pub not_read : (σ : Signature) {xs : List Text} {old mid new : Input} {p q : Formula} → Reads (g.mark k.Tilde) old mid → KeepsNames old mid → ReadsFormula g.unary σ xs mid new p
+    → form_of q ≡ form.no (form_of p) → ReadsFormula g.unary σ xs old new q
+not_read σ tilde keeps r f = holds_read (negates (holds_behind keeps (read_holds r)) f) (λ u d. g.is_not (tilde _ (r.reads _ d)))
 
-pub group_read : (σ : Signature) {xs : List Text} {old mid behind new : Input} {p q : Parsed} → Reads (g.mark k.LeftParen) old mid → KeepsNames old mid
+pub group_read : (σ : Signature) {xs : List Text} {old mid behind new : Input} {p q : Formula} → Reads (g.mark k.LeftParen) old mid → KeepsNames old mid
     → ReadsFormula g.formula σ xs mid behind p → Reads (g.mark k.RightParen) behind new → KeepsNames behind new
-    → q.formula ≡ p.formula → q.shape ≡ grouped_shape p.shape → ReadsFormula g.unary σ xs old new q
-group_read σ opens keeps r close kept f s =
-    holds_read (groups (holds_behind keeps (holds_before (read_holds r) kept)) f s) (λ u d. g.is_group (opens _ (r.reads _ (close _ d))))
+    → q ≡ p → ReadsFormula g.unary σ xs old new q
+group_read σ opens keeps r close kept f =
+    holds_read (groups (holds_behind keeps (holds_before (read_holds r) kept)) f) (λ u d. g.is_group (opens _ (r.reads _ (close _ d))))
 
-quantified_reads : {σ : Signature} {xs : List Text} (old : Input) {mid new : Input} {numbers : List ℕ} {p : Parsed} (kind : TokenKind) → Reads (g.mark kind) old mid
+quantified_reads : {σ : Signature} {xs : List Text} (old : Input) {mid new : Input} {numbers : List ℕ} {p : Formula} (kind : TokenKind) → Reads (g.mark kind) old mid
     → (r : ReadsQuantified σ xs mid new numbers p)
     → (s : List Part) → Derives s (words_left new)
     → Derives (g.mark kind ∷ word k.Variable r.first ∷ variables r.more ∷ g.mark k.Colon ∷ g.unary r.body ∷ s) (words_left old)
 quantified_reads old kind mark r s d = mark _ (r.reads s d)
 
-numbered_form : {σ : Signature} {xs : List Text} {mid new : Input} {numbers : List ℕ} {p : Parsed} (q : Parsed) (quantifier : ℕ → Form → Form)
-    (r : ReadsQuantified σ xs mid new numbers p) (later : List Text) → form_of q.formula ≡ behind quantifier numbers (form_of p.formula)
-    → form_of q.formula ≡ behind quantifier (map (number_in (new.names ++ later)) (r.first ∷ r.more)) (form_of p.formula)
-numbered_form {p = p} q quantifier r later f = f ∙ ap (λ l. behind quantifier l (form_of p.formula)) (r.numbered later)
+numbered_form : {σ : Signature} {xs : List Text} {mid new : Input} {numbers : List ℕ} {p : Formula} (q : Formula) (quantifier : ℕ → Form → Form)
+    (r : ReadsQuantified σ xs mid new numbers p) (later : List Text) → form_of q ≡ behind quantifier numbers (form_of p)
+    → form_of q ≡ behind quantifier (map (number_in (new.names ++ later)) (r.first ∷ r.more)) (form_of p)
+numbered_form {p = p} q quantifier r later f = f ∙ ap (λ l. behind quantifier l (form_of p)) (r.numbered later)
 
-module _ {σ : Signature} {xs : List Text} {old mid new : Input} {numbers : List ℕ} {p q : Parsed} where
+module _ {σ : Signature} {xs : List Text} {old mid new : Input} {numbers : List ℕ} {p q : Formula} where
   pub exists_read : Reads (g.mark k.«Exists») old mid → KeepsNames old mid → ReadsQuantified σ xs mid new numbers p
-      → form_of q.formula ≡ behind form.exists numbers (form_of p.formula) → q.shape ≡ asked_shape p.shape → ReadsFormula g.unary σ xs old new q
-  exists_read mark keeps r f s =
+      → form_of q ≡ behind form.exists numbers (form_of p) → ReadsFormula g.unary σ xs old new q
+  exists_read mark keeps r f =
       holds_read (holds_behind keeps (record {
         names = r.names;
         loose = r.loose;
-        is = λ later. ((form_of p.formula, numbered_form q form.exists r later f, (r.is later).0), s ∙ ap asked_shape (r.is later).1);
+        is = λ later. (form_of p, numbered_form q form.exists r later f, r.is later);
       })) (λ u d. g.is_exists (quantified_reads old k.«Exists» mark r u d))
 
   pub forall_read : Reads (g.mark k.Forall) old mid → KeepsNames old mid → ReadsQuantified σ xs mid new numbers p
-      → form_of q.formula ≡ behind form.forall numbers (form_of p.formula) → q.shape ≡ Other → ReadsFormula g.unary σ xs old new q
-  forall_read mark keeps r f s =
+      → form_of q ≡ behind form.forall numbers (form_of p) → ReadsFormula g.unary σ xs old new q
+  forall_read mark keeps r f =
       holds_read (holds_behind keeps (record {
         names = r.names;
         loose = r.loose;
-        is = λ later. ((form_of p.formula, numbered_form q form.forall r later f, (r.is later).0), s);
+        is = λ later. (form_of p, numbered_form q form.forall r later f, r.is later);
       })) (λ u d. g.is_forall (quantified_reads old k.Forall mark r u d))
 
 -- ---- the variables of a quantifier
@@ -253,7 +251,7 @@ next_bound {outer} {bound} {longer} {old} {mid} {new} {numbers} {more_numbers} {
       ∙ sym (map_push (number_in (new.names ++ later)) (r.first ∷ r.more) x);
 }
 
-pub body_read : {σ : Signature} {outer bound : List Text} {old mid behind new : Input} {numbers : List ℕ} {p : Parsed} → ReadsBound outer old mid bound numbers
+pub body_read : {σ : Signature} {outer bound : List Text} {old mid behind new : Input} {numbers : List ℕ} {p : Formula} → ReadsBound outer old mid bound numbers
     → Reads (g.mark k.Colon) mid behind → KeepsNames mid behind → ReadsFormula g.unary σ bound behind new p → ReadsQuantified σ outer old new numbers p
 body_read {σ} {outer} {bound} {old} {mid} {behind} {new} {numbers} {p} r colon keeps b =
     let names : new.names ≡ first_occurrences mid.names (variables_in b.written) = b.names ∙ ap (λ l. first_occurrences l (variables_in b.written)) keeps.names in
@@ -270,11 +268,11 @@ body_read {σ} {outer} {bound} {old} {mid} {behind} {new} {numbers} {p} r colon 
     }
 
 -- a formula within one more nesting has the same variables bound
-pub under : (part : WrittenFormula → Part) (σ : Signature) {old new : Input} {p : Parsed} (inner c : Place) → inner ≡ deeper c
+pub under : (part : WrittenFormula → Part) (σ : Signature) {old new : Input} {p : Formula} (inner c : Place) → inner ≡ deeper c
     → ReadsFormula part σ inner.bound old new p → ReadsFormula part σ c.bound old new p
 under part σ {old} {new} {p} inner c is r = subst (λ xs. ReadsFormula part σ xs old new p) (ap (λ q. q.bound) is) r
 
-pub quantified_under : (σ : Signature) {old new : Input} {numbers : List ℕ} {p : Parsed} (inner c : Place) → inner ≡ deeper c
+pub quantified_under : (σ : Signature) {old new : Input} {numbers : List ℕ} {p : Formula} (inner c : Place) → inner ≡ deeper c
     → ReadsQuantified σ inner.bound old new numbers p → ReadsQuantified σ c.bound old new numbers p
 quantified_under σ {old} {new} {numbers} {p} inner c is r = subst (λ xs. ReadsQuantified σ xs old new numbers p) (ap (λ q. q.bound) is) r
 

@@ -123,9 +123,9 @@ made (Ok x) before after h same = same
 made (Err NoMemory) before after h same = tt
 made (Err (Refused fault)) before after h same = cc
 
-pub if_made : {A : Type 0} (r : Result A ReadError) (P Q R : A → Type 0) → IfOk r P → IfOk r Q → ((x : A) → P x → Q x → R x) → IfOk r R
-if_made (Ok x) P Q R p q f = f x p q
-if_made (Err e) P Q R p q f = tt
+pub if_made : {A : Type 0} (r : Result A ReadError) (P Q : A → Type 0) → IfOk r P → ((x : A) → P x → Q x) → IfOk r Q
+if_made (Ok x) P Q p f = f x p
+if_made (Err e) P Q p f = tt
 
 pub nothing_more : (x : Option FaultKind) → x ≡ sooner x None
 nothing_more None = refl

@@ -8,15 +8,13 @@ use Rattle.formula_ast.specs.declared.file.File.{File}
 use Rattle.formula_ast.specs.declared.pred.Pred.{Pred}
 use Rattle.formula_ast.specs.declared.statement.Statement.{Statement}
 use Rattle.formula_ast.specs.Forms.{form_of}
-use Rattle.formula_grammar.specs.declared.shape.Shape.TheVariants.{Question}
 use Rattle.formula_grammar.specs.Written.{Text, Declaration, symbols, predicate, solve}
 use Rattle.formula_grammar.specs.Grammar as g
 use Rattle.formula_grammar.specs.Grammar.{Part, Derives, mark, word, declarations, parameters, more_parameters, file}
 use Rattle.formula_grammar.specs.Checks.{entry_of}
 use Rattle.formula_grammar.specs.Lawful.{is_bound, symbol_entry}
 use Rattle.formula_grammar.specs.Meaning.{first_occurrences, variables_in, Stands, Makes}
-use Rattle.formula_grammar.specs.Reading.{shape_of}
-use Rattle.formula_reader.specs.declared.parsed.Parsed.{Parsed}
+use Rattle.formula_ast.specs.declared.formula.Formula.{Formula}
 use Rattle.formula_reader.specs.Input.{Input, words_left}
 use Rattle.formula_reader.specs.Reads.{Reads, ReadsDeclaration, ReadsParameter, ReadsStatement, IsParsed}
 use Rattle.formula_reader.proofs.FormulaReading.{ReadsFormula}
@@ -104,20 +102,17 @@ pub alone : (P : List Text → Type 0) (names : List Text) → ((more : List Tex
 alone P names h = subst P (append-nil names) (h [])
 
 -- A formula was read behind what begins a statement, and then a full stop.
-module _ (σ : Signature) (xs bound : List Text) (begun mid : Input) (p : Parsed) (r : ReadsFormula g.formula σ bound begun mid p) (none : begun.names ≡ xs) where
+module _ (σ : Signature) (xs bound : List Text) (begun mid : Input) (p : Formula) (r : ReadsFormula g.formula σ bound begun mid p) (none : begun.names ≡ xs) where
   pub named : (names : List Text) → names ≡ mid.names → names ≡ first_occurrences xs (variables_in r.written)
   named names same = same ∙ r.names ∙ ap (λ l. first_occurrences l (variables_in r.written)) none
 
-  pub stands : (names : List Text) → names ≡ mid.names → Stands σ names r.written (form_of p.formula)
-  stands names same = subst (λ l. Stands σ l r.written (form_of p.formula)) (sym same) (alone (λ l. IsParsed σ l r.written p) mid.names r.is).0
+  pub stands : (names : List Text) → names ≡ mid.names → Stands σ names r.written (form_of p)
+  stands names same = subst (λ l. Stands σ l r.written (form_of p)) (sym same) (alone (λ l. IsParsed σ l r.written p) mid.names r.is)
 
-  shape : p.shape ≡ shape_of r.written
-  shape = (r.is []).1
-
-pub question_read : {old begun mid : Input} (behind new : Input) (before after : File) (p : Parsed) (built : Bool) (s : Statement) → Reads (mark k.Solve) old begun
+pub question_read : {old begun mid : Input} (behind new : Input) (before after : File) (p : Formula) (built : Bool) (s : Statement) → Reads (mark k.Solve) old begun
     → begun.names ≡ [] → begun.loose ≡ false → ReadsFormula g.formula before.signature [] begun mid p → Reads (mark k.Stop) mid behind → words_left new ≡ words_left behind
-    → s.names ≡ mid.names → s.body ≡ p.formula → after.signature ≡ before.signature → after.preds ≡ before.preds → after.solves ≡ before.solves ++ s ∷ []
-    → (IsTrue built ↔ ((p.shape ≡ Question) × (mid.loose ≡ false))) → ReadsStatement old new before after built
+    → s.names ≡ mid.names → s.body ≡ p → after.signature ≡ before.signature → after.preds ≡ before.preds → after.solves ≡ before.solves ++ s ∷ []
+    → built ≡ not mid.loose → ReadsStatement old new before after built
 question_read {old} {begun} {mid} behind new before after p built s begins none tight r stop same names body signature preds solves asked = record {
   written = solve r.written;
   reads = λ more u d. g.file_solve (begins _ (r.reads _ (stop _ (subst (λ l. Derives (file more ∷ u) l) same d))));
@@ -130,20 +125,19 @@ question_read {old} {begun} {mid} behind new before after p built s begins none 
     subst (λ σ. Makes whole σ before.preds (before.solves ++ s ∷ []) more) signature (subst (λ l. Makes whole after.signature l (before.solves ++ s ∷ []) more) preds
         (subst (λ l. Makes whole after.signature after.preds l more) solves m)),
   );
-  is_built = (
-    λ b. let a = asked.0 b in (sym (r.is []).1 ∙ a.0, bound_if (is_bound [] r.written) (sym (r.loose ∙ ap (λ l. l || not (is_bound [] r.written)) tight) ∙ a.1)),
-    λ b. asked.1 ((r.is []).1 ∙ b.0, r.loose ∙ ap (λ l. l || not (is_bound [] r.written)) tight ∙ ap not b.1),
-  );
+  is_built =
+      let bound : built ≡ is_bound [] r.written = asked ∙ ap not (r.loose ∙ ap (λ l. l || not (is_bound [] r.written)) tight) ∙ not_twice (is_bound [] r.written) in
+      (λ b. sym bound ∙ b, λ b. bound ∙ b);
 }
   where
-    bound_if : (b : Bool) → (false || not b) ≡ false → b ≡ true
-    bound_if true h = refl
-    bound_if false h = cc
+    not_twice : (b : Bool) → not (false || not b) ≡ b
+    not_twice true = refl
+    not_twice false = refl
 
-pub predicate_read : {old defined mid : Input} (begun named_at listed behind new : Input) (before after : File) (p : Parsed) (name : Text) (xs : List Text) (pred : Pred)
+pub predicate_read : {old defined mid : Input} (begun named_at listed behind new : Input) (before after : File) (p : Formula) (name : Text) (xs : List Text) (pred : Pred)
     → Reads (mark k.Pred) old begun → Reads (word k.Name name) begun named_at → Reads (parameters xs) named_at listed → Reads (mark k.Define) listed defined → defined.names ≡ xs
     → ReadsFormula g.formula before.signature xs defined mid p → Reads (mark k.Stop) mid behind → words_left new ≡ words_left behind
-    → pred.place ≡ length before.signature → pred.params ≡ length xs → pred.names ≡ mid.names → pred.body ≡ p.formula
+    → pred.place ≡ length before.signature → pred.params ≡ length xs → pred.names ≡ mid.names → pred.body ≡ p
     → after.signature ≡ before.signature ++ entry_of name kind.Pred (length xs) ∷ [] → after.preds ≡ before.preds ++ pred ∷ [] → after.solves ≡ before.solves
     → ReadsStatement old new before after false
 predicate_read {old} {defined} {mid} begun named_at listed behind new before after p name xs pred begins names lists defines given r stop same place params are body signature preds solves = record {

@@ -7,8 +7,6 @@ use Rattle.formula_grammar.specs.Lawful.{has_bound}
 use Rattle.formula_ast.specs.declared.term.Term.{Term}
 use Rattle.formula_ast.specs.Forms as form
 use Rattle.formula_ast.specs.Forms.{Form}
-use Rattle.formula_grammar.specs.declared.shape.Shape.{Shape}
-use Rattle.formula_grammar.specs.declared.shape.Shape.TheVariants.{Equation, Other}
 use Rattle.formula_reader.specs.declared.parsed.Comparison as read
 use Rattle.formula_reader.specs.declared.parsed.Comparison.TheVariants as kind
 
@@ -29,7 +27,3 @@ compared_bound xs (differs w) = has_bound xs w
 abbrev pub comparison_form : Term → read.Comparison → Form
 comparison_form t (kind.Equals u) = form.equal t u
 comparison_form t (kind.Differs u) = form.differ t u
-
-abbrev pub comparison_shape : read.Comparison → Shape
-comparison_shape (kind.Equals u) = Equation
-comparison_shape (kind.Differs u) = Other

@@ -4,13 +4,13 @@ use Rattle.tree_model.specs.Signatures.{Signature}
 use Rattle.formula_ast.specs.Forms.{form_of}
 use Rattle.formula_ast.specs.declared.token.TokenKind.TheVariants as k
 use Rattle.formula_ast.specs.declared.file.File.{File}
+use Rattle.formula_ast.specs.declared.formula.Formula.{Formula}
 use Rattle.formula_grammar.specs.Written.{Text, WrittenFormula, Declaration, WrittenStatement}
 use Rattle.formula_grammar.specs.Grammar.{Part, Derives, mark, word, file, variables, unary}
 use Rattle.formula_grammar.specs.Lawful.{is_bound, symbol_entry}
 use Rattle.formula_grammar.specs.Meaning.{first_occurrences, number_in, variables_in, Stands, Makes}
-use Rattle.formula_grammar.specs.Reading.{shape_of, IsBuilt}
+use Rattle.formula_grammar.specs.Reading.{IsBuilt}
 use Rattle.formula_reader.specs.Input.{Input, words_left}
-use Rattle.formula_reader.specs.declared.parsed.Parsed.{Parsed}
 
 -- the part stands between these two places of the text
 abbrev pub Reads : Part → Input → Input → Type 0
@@ -26,12 +26,12 @@ pub record ReadsAs {W A : Type 0} (part : W → Part) (variables : W → List Te
   pub loose : new.loose ≡ (old.loose || not (is_bound written))
   pub is : (more : List Text) → Is (new.names ++ more) written value
 
--- the formula is the one that is written, and has its shape
-abbrev pub IsParsed : Signature → List Text → WrittenFormula → Parsed → Type 0
-IsParsed σ names w p = Stands σ names w (form_of p.formula) × (p.shape ≡ shape_of w)
+-- the formula is the one that is written
+abbrev pub IsParsed : Signature → List Text → WrittenFormula → Formula → Type 0
+IsParsed σ names w f = Stands σ names w (form_of f)
 
 -- The variables of a quantifier and its body were read, with the variables' numbers.
-pub record ReadsQuantified (σ : Signature) (bound : List Text) (old new : Input) (numbers : List ℕ) (p : Parsed) : Type 0 where
+pub record ReadsQuantified (σ : Signature) (bound : List Text) (old new : Input) (numbers : List ℕ) (f : Formula) : Type 0 where
   pub first : Text
   pub more : List Text
   pub body : WrittenFormula
@@ -39,7 +39,7 @@ pub record ReadsQuantified (σ : Signature) (bound : List Text) (old new : Input
       → Derives (word k.Variable first ∷ variables more ∷ mark k.Colon ∷ unary body ∷ s) (words_left old)
   pub names : new.names ≡ first_occurrences old.names (first ∷ more ++ variables_in body)
   pub loose : new.loose ≡ (old.loose || not (is_bound (bound ++ first ∷ more) body))
-  pub is : (later : List Text) → IsParsed σ (new.names ++ later) body p
+  pub is : (later : List Text) → IsParsed σ (new.names ++ later) body f
   pub numbered : (later : List Text) → numbers ≡ map (number_in (new.names ++ later)) (first ∷ more)
 
 -- a declaration was read, and its symbol declared

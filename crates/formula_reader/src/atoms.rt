@@ -14,7 +14,7 @@ ghost use Rattle.formula_ast.specs.Forms.{form_of};
 
 use crate::ReadError;
 use crate::checks::Head;
-use crate::parsed::{Comparison, Parsed, compared, other};
+use crate::parsed::{Comparison, compared};
 use crate::place::Place;
 use crate::reader::Reader;
 use crate::words::place_in;
@@ -49,7 +49,7 @@ impl<'a> Reader<'a> {
         alloc: Global,
         signature: &Signature,
         place: Place<'_, 'a>,
-    ) -> Result<Parsed, ReadError>
+    ) -> Result<Formula, ReadError>
         requires depth { place.depth ≤ 200 }
         requires starts { IsTrue (starts k.Finite (left_of self.old)) }
         ensures faults { FaultsAs (m.unary (place_of place.entry)) result signature.now self.old self.new }
@@ -61,7 +61,7 @@ impl<'a> Reader<'a> {
         let inner = self.opening(place)?;
         let term = self.term(alloc, signature, inner)?;
         self.expect(TokenKind::RightParen)?;
-        Ok(other(Formula::Finite(term)))
+        Ok(Formula::Finite(term))
     }
 
     // `win` and its three arguments.
@@ -70,7 +70,7 @@ impl<'a> Reader<'a> {
         alloc: Global,
         signature: &Signature,
         place: Place<'_, 'a>,
-    ) -> Result<Parsed, ReadError>
+    ) -> Result<Formula, ReadError>
         requires depth { place.depth ≤ 200 }
         requires starts { IsTrue (starts k.Win (left_of self.old)) }
         ensures faults { FaultsAs (m.unary (place_of place.entry)) result signature.now self.old self.new }
@@ -86,7 +86,7 @@ impl<'a> Reader<'a> {
         self.expect(TokenKind::Comma)?;
         let term = self.term(alloc, signature, inner)?;
         self.expect(TokenKind::RightParen)?;
-        Ok(other(Formula::Win(predicate, moves, term)))
+        Ok(Formula::Win(predicate, moves, term))
     }
 
     // `=` or `!=` and a term.
@@ -126,7 +126,7 @@ impl<'a> Reader<'a> {
         alloc: Global,
         signature: &Signature,
         place: Place<'_, 'a>,
-    ) -> Result<Parsed, ReadError>
+    ) -> Result<Formula, ReadError>
         requires depth { place.depth ≤ 200 }
         requires starts { IsTrue (starts k.Name (left_of self.old)) }
         ensures faults { FaultsAs (m.unary (place_of place.entry)) result signature.now self.old self.new }
@@ -145,7 +145,7 @@ impl<'a> Reader<'a> {
         } else {
             let wrong = self.check_stands_alone(signature, name);
             self.complain(wrong);
-            Ok(other(Formula::Call(number, arguments)))
+            Ok(Formula::Call(number, arguments))
         }
     }
 
@@ -155,7 +155,7 @@ impl<'a> Reader<'a> {
         alloc: Global,
         signature: &Signature,
         place: Place<'_, 'a>,
-    ) -> Result<Parsed, ReadError>
+    ) -> Result<Formula, ReadError>
         requires depth { place.depth ≤ 200 }
         requires starts { IsTrue (starts k.Variable (left_of self.old)) }
         ensures faults { FaultsAs (m.unary (place_of place.entry)) result signature.now self.old self.new }
@@ -173,7 +173,7 @@ impl<'a> Reader<'a> {
         alloc: Global,
         signature: &Signature,
         place: Place<'_, 'a>,
-    ) -> Result<Parsed, ReadError>
+    ) -> Result<Formula, ReadError>
         requires depth { place.depth ≤ 200 }
         requires starts { IsTrue (starts k.Further (left_of self.old)) }
         ensures faults { FaultsAs (m.unary (place_of place.entry)) result signature.now self.old self.new }
@@ -193,7 +193,7 @@ impl<'a> Reader<'a> {
         alloc: Global,
         signature: &Signature,
         place: Place<'_, 'a>,
-    ) -> Result<Parsed, ReadError>
+    ) -> Result<Formula, ReadError>
         requires depth { place.depth ≤ 200 }
         requires no_tilde { starts k.Tilde (left_of self.old) ≡ false }
         requires no_exists { starts k.«Exists» (left_of self.old) ≡ false }
@@ -206,10 +206,10 @@ impl<'a> Reader<'a> {
     {
         if self.sees(TokenKind::True) {
             self.take(TokenKind::True, None)?;
-            Ok(other(Formula::True))
+            Ok(Formula::True)
         } else if self.sees(TokenKind::False) {
             self.take(TokenKind::False, None)?;
-            Ok(other(Formula::False))
+            Ok(Formula::False)
         } else if self.sees(TokenKind::Finite) {
             self.finiteness(alloc, signature, place)
         } else if self.sees(TokenKind::Win) {

@@ -64,8 +64,5 @@ pub fn read_formula(alloc: Global, sig: &Signature, bytes: &[u8]) -> Result<Stat
     let body = reader.formula(alloc, sig, place)?;
     reader.finish()?;
     let names = reader.into_names(alloc)?;
-    Ok(Statement {
-        names,
-        body: body.formula,
-    })
+    Ok(Statement { names, body })
 }

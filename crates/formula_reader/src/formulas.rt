@@ -11,9 +11,10 @@ ghost use Rattle.formula_reader.specs.Faults.{FaultsAs};
 ghost use Rattle.formula_reader.specs.Reads.{ReadsAs, ReadsQuantified, IsParsed};
 
 use crate::ReadError;
-use crate::parsed::{Joint, Parsed, existential, grouped_shape, joined, negated, universal};
+use crate::parsed::{Joint, existential, joined, negated, universal};
 use crate::place::Place;
 use crate::reader::Reader;
+use formula_ast::Formula;
 use formula_tokens::TokenKind;
 use signature::Signature;
 use std::alloc::Global;
@@ -26,7 +27,7 @@ impl<'a> Reader<'a> {
         alloc: Global,
         signature: &Signature,
         place: Place<'_, 'a>,
-    ) -> Result<Parsed, ReadError>
+    ) -> Result<Formula, ReadError>
         requires depth { place.depth ≤ 200 }
         ensures faults { FaultsAs (m.formula (place_of place.entry)) result signature.now self.old self.new }
         ensures reads { IfOk result (λ p. ReadsAs g.formula variables_in (is_bound (texts_of place.entry.bound.now)) (λ names w q. IsParsed signature.now names w q) self.old self.new p) }
@@ -49,7 +50,7 @@ impl<'a> Reader<'a> {
         alloc: Global,
         signature: &Signature,
         place: Place<'_, 'a>,
-    ) -> Result<Parsed, ReadError>
+    ) -> Result<Formula, ReadError>
         requires depth { place.depth ≤ 200 }
         ensures faults { FaultsAs (m.implication (place_of place.entry)) result signature.now self.old self.new }
         ensures reads { IfOk result (λ p. ReadsAs g.implication variables_in (is_bound (texts_of place.entry.bound.now)) (λ names w q. IsParsed signature.now names w q) self.old self.new p) }
@@ -72,7 +73,7 @@ impl<'a> Reader<'a> {
         alloc: Global,
         signature: &Signature,
         place: Place<'_, 'a>,
-    ) -> Result<Parsed, ReadError>
+    ) -> Result<Formula, ReadError>
         requires depth { place.depth ≤ 200 }
         ensures faults { FaultsAs (m.disjunction (place_of place.entry)) result signature.now self.old self.new }
         ensures reads { IfOk result (λ p. ReadsAs g.disjunction variables_in (is_bound (texts_of place.entry.bound.now)) (λ names w q. IsParsed signature.now names w q) self.old self.new p) }
@@ -95,7 +96,7 @@ impl<'a> Reader<'a> {
         alloc: Global,
         signature: &Signature,
         place: Place<'_, 'a>,
-    ) -> Result<Parsed, ReadError>
+    ) -> Result<Formula, ReadError>
         requires depth { place.depth ≤ 200 }
         ensures faults { FaultsAs (m.conjunction (place_of place.entry)) result signature.now self.old self.new }
         ensures reads { IfOk result (λ p. ReadsAs g.conjunction variables_in (is_bound (texts_of place.entry.bound.now)) (λ names w q. IsParsed signature.now names w q) self.old self.new p) }
@@ -118,7 +119,7 @@ impl<'a> Reader<'a> {
         alloc: Global,
         signature: &Signature,
         place: Place<'_, 'a>,
-    ) -> Result<Parsed, ReadError>
+    ) -> Result<Formula, ReadError>
         requires depth { place.depth ≤ 200 }
         ensures faults { FaultsAs (m.unary (place_of place.entry)) result signature.now self.old self.new }
         ensures reads { IfOk result (λ p. ReadsAs g.unary variables_in (is_bound (texts_of place.entry.bound.now)) (λ names w q. IsParsed signature.now names w q) self.old self.new p) }
@@ -150,7 +151,7 @@ impl<'a> Reader<'a> {
         alloc: Global,
         signature: &Signature,
         place: Place<'_, 'a>,
-    ) -> Result<Parsed, ReadError>
+    ) -> Result<Formula, ReadError>
         requires depth { place.depth ≤ 200 }
         requires starts { IsTrue (starts k.LeftParen (left_of self.old)) }
         ensures faults { FaultsAs (m.unary (place_of place.entry)) result signature.now self.old self.new }
@@ -159,12 +160,9 @@ impl<'a> Reader<'a> {
         ensures on { OnOk result (self.old.at ≤ self.new.at) }
     {
         let inner = self.open(TokenKind::LeftParen, place)?;
-        let Parsed { formula, shape } = self.formula(alloc, signature, inner)?;
+        let formula = self.formula(alloc, signature, inner)?;
         self.expect(TokenKind::RightParen)?;
-        Ok(Parsed {
-            formula,
-            shape: grouped_shape(shape),
-        })
+        Ok(formula)
     }
 
     // The variables of a quantifier, and its body.
@@ -174,7 +172,7 @@ impl<'a> Reader<'a> {
         alloc: Global,
         signature: &Signature,
         place: Place<'_, 'a>,
-    ) -> Result<(Vec<usize>, Parsed), ReadError>
+    ) -> Result<(Vec<usize>, Formula), ReadError>
         requires depth { place.depth ≤ 200 }
         ensures faults { FaultsAs (m.quantified (place_of place.entry)) result signature.now self.old self.new }
         ensures reads { IfOk result (λ q. ReadsQuantified signature.now (texts_of place.entry.bound.now) self.old self.new q.0.items q.1) }

@@ -1,24 +1,15 @@
-// What was read of a formula.
+// Formulas made of the parts that were read.
 ghost use Rattle.std.specs.Prelude.{◌≡◌, IfOk, IfErr};
 ghost use Rattle.formula_ast.specs.Forms as form;
 ghost use Rattle.formula_ast.specs.Forms.{form_of};
 ghost use Rattle.formula_grammar.specs.Meaning.{behind};
-ghost use Rattle.formula_grammar.specs.Reading.{joined_shape, grouped_shape, asked_shape};
-ghost use Rattle.formula_reader.specs.Joints.{joint_form, joint_shape};
-ghost use Rattle.formula_reader.specs.Compared.{comparison_form, comparison_shape};
+ghost use Rattle.formula_reader.specs.Joints.{joint_form};
+ghost use Rattle.formula_reader.specs.Compared.{comparison_form};
 
 use crate::ReadError;
 use formula_ast::{Formula, Term};
-use formula_grammar::Shape;
 use sqlite_items::Boxed;
 use std::alloc::Global;
-
-/// A formula, and what it is of those that are answered by now.
-#[derive(Drop)]
-pub(crate) struct Parsed {
-    pub(crate) formula: Formula,
-    pub(crate) shape: Shape,
-}
 
 /// What a term is compared with.
 #[derive(Drop)]
@@ -36,56 +27,14 @@ pub(crate) enum Joint {
     Iff,
 }
 
-// A formula that is not answered yet.
-pub(crate) fn other(formula: Formula) -> Parsed
-    ensures formula { result.formula ≡ formula }
-    ensures shape { result.shape ≡ Shape.Other }
-{
-    Parsed {
-        formula,
-        shape: Shape::Other,
-    }
-}
-
 // A term compared with another.
 #[tactic(auto, using(formula_ast::proofs::Ties::form_rules))]
-pub(crate) fn compared(left: Term, comparison: Comparison) -> Parsed
-    ensures formula { form_of result.formula ≡ comparison_form left comparison }
-    ensures shape { result.shape ≡ comparison_shape comparison }
+pub(crate) fn compared(left: Term, comparison: Comparison) -> Formula
+    ensures { form_of result ≡ comparison_form left comparison }
 {
     match comparison {
-        Comparison::Equals(right) => Parsed {
-            formula: Formula::Eq(left, right),
-            shape: Shape::Equation,
-        },
-        Comparison::Differs(right) => other(Formula::Differ(left, right)),
-    }
-}
-
-fn joined_shape(left: Shape, right: Shape) -> Shape
-    ensures { result ≡ joined_shape left right }
-{
-    match (left, right) {
-        (Shape::Equation | Shape::Equations, Shape::Equation) => Shape::Equations,
-        _ => Shape::Other,
-    }
-}
-
-pub(crate) fn grouped_shape(shape: Shape) -> Shape
-    ensures { result ≡ grouped_shape shape }
-{
-    match shape {
-        Shape::Equation | Shape::Equations => Shape::Group,
-        _ => Shape::Other,
-    }
-}
-
-fn asked_shape(shape: Shape) -> Shape
-    ensures { result ≡ asked_shape shape }
-{
-    match shape {
-        Shape::Equation | Shape::Group => Shape::Question,
-        _ => Shape::Other,
+        Comparison::Equals(right) => Formula::Eq(left, right),
+        Comparison::Differs(right) => Formula::Differ(left, right),
     }
 }
 
@@ -94,67 +43,59 @@ fn asked_shape(shape: Shape) -> Shape
 pub(crate) fn joined(
     alloc: Global,
     joint: Joint,
-    left: Parsed,
-    right: Parsed,
-) -> Result<Parsed, ReadError>
-    ensures formula { IfOk result (λ p. form_of p.formula ≡ joint_form joint (form_of left.formula) (form_of right.formula)) }
-    ensures shape { IfOk result (λ p. p.shape ≡ joint_shape joint left.shape right.shape) }
+    left: Formula,
+    right: Formula,
+) -> Result<Formula, ReadError>
+    ensures formula { IfOk result (λ f. form_of f ≡ joint_form joint (form_of left) (form_of right)) }
     ensures no_memory { IfErr result (λ error. error ≡ ReadError.NoMemory) }
 {
-    let a = Boxed::new(alloc, left.formula)?;
-    let b = Boxed::new(alloc, right.formula)?;
+    let a = Boxed::new(alloc, left)?;
+    let b = Boxed::new(alloc, right)?;
     match joint {
-        Joint::And => Ok(Parsed {
-            formula: Formula::And(a, b),
-            shape: joined_shape(left.shape, right.shape),
-        }),
-        Joint::Or => Ok(other(Formula::Or(a, b))),
-        Joint::Imp => Ok(other(Formula::Imp(a, b))),
-        Joint::Iff => Ok(other(Formula::Iff(a, b))),
+        Joint::And => Ok(Formula::And(a, b)),
+        Joint::Or => Ok(Formula::Or(a, b)),
+        Joint::Imp => Ok(Formula::Imp(a, b)),
+        Joint::Iff => Ok(Formula::Iff(a, b)),
     }
 }
 
 // The negation of a formula.
 #[tactic(auto, using(formula_ast::proofs::Ties::form_rules))]
-pub(crate) fn negated(alloc: Global, inner: Parsed) -> Result<Parsed, ReadError>
-    ensures formula { IfOk result (λ p. form_of p.formula ≡ form.no (form_of inner.formula)) }
-    ensures shape { IfOk result (λ p. p.shape ≡ Shape.Other) }
+pub(crate) fn negated(alloc: Global, inner: Formula) -> Result<Formula, ReadError>
+    ensures formula { IfOk result (λ f. form_of f ≡ form.no (form_of inner)) }
     ensures no_memory { IfErr result (λ error. error ≡ ReadError.NoMemory) }
 {
-    Ok(other(Formula::Not(Boxed::new(alloc, inner.formula)?)))
+    Ok(Formula::Not(Boxed::new(alloc, inner)?))
 }
 
 // The formula behind existential quantifiers for these variables.
 pub(crate) fn existential(
     alloc: Global,
     variables: &[usize],
-    inner: Parsed,
-) -> Result<Parsed, ReadError>
-    ensures formula { IfOk result (λ p. form_of p.formula ≡ behind form.exists variables.now (form_of inner.formula)) }
-    ensures shape { IfOk result (λ p. p.shape ≡ asked_shape inner.shape) }
+    inner: Formula,
+) -> Result<Formula, ReadError>
+    ensures formula { IfOk result (λ f. form_of f ≡ behind form.exists variables.now (form_of inner)) }
     ensures no_memory { IfErr result (λ error. error ≡ ReadError.NoMemory) }
 {
-    let shape = asked_shape(inner.shape);
-    let mut formula = inner.formula;
+    let mut formula = inner;
     for variable in variables.iter().rev() {
         formula = Formula::Exists(*variable, Boxed::new(alloc, formula)?);
     }
-    Ok(Parsed { formula, shape })
+    Ok(formula)
 }
 
 // The formula behind universal quantifiers for these variables.
 pub(crate) fn universal(
     alloc: Global,
     variables: &[usize],
-    inner: Parsed,
-) -> Result<Parsed, ReadError>
-    ensures formula { IfOk result (λ p. form_of p.formula ≡ behind form.forall variables.now (form_of inner.formula)) }
-    ensures shape { IfOk result (λ p. p.shape ≡ Shape.Other) }
+    inner: Formula,
+) -> Result<Formula, ReadError>
+    ensures formula { IfOk result (λ f. form_of f ≡ behind form.forall variables.now (form_of inner)) }
     ensures no_memory { IfErr result (λ error. error ≡ ReadError.NoMemory) }
 {
-    let mut formula = inner.formula;
+    let mut formula = inner;
     for variable in variables.iter().rev() {
         formula = Formula::Forall(*variable, Boxed::new(alloc, formula)?);
     }
-    Ok(other(formula))
+    Ok(formula)
 }

@@ -1,5 +1,5 @@
 // Reads statements.
-ghost use Rattle.std.specs.Prelude.{◌≡◌, ◌↔◌, ◌<◌, ◌≤◌, ℕ, [], ◌∷◌, ◌++◌, true, false, None, IsTrue, IfOk, IfErr, OnOk, length};
+ghost use Rattle.std.specs.Prelude.{◌≡◌, ◌<◌, ◌≤◌, ℕ, [], ◌∷◌, ◌++◌, true, false, None, IsTrue, IfOk, IfErr, OnOk, length};
 ghost use Rattle.formula_ast.specs.Tokens.{Stream, token};
 ghost use Rattle.formula_ast.specs.declared.token.Token.{Token};
 ghost use Rattle.formula_ast.specs.declared.token.TokenKind.TheVariants as k;
@@ -18,7 +18,7 @@ use crate::place::Place;
 use crate::reader::Reader;
 use crate::variables::Variables;
 use formula_ast::{File, Pred, Statement};
-use formula_grammar::{FaultKind, Shape};
+use formula_grammar::FaultKind;
 use formula_tokens::TokenKind;
 use signature::{DeclareError, Kind, Signature};
 use std::alloc::Global;
@@ -41,13 +41,6 @@ fn declare(
         Err(DeclareError::Twice(_)) => unreachable!(),
         Err(DeclareError::NoMemory) => Err(ReadError::NoMemory),
     }
-}
-
-// Whether a question of this shape is answered by now.
-fn is_answered(shape: Shape, loose: bool) -> bool
-    ensures { IsTrue result ↔ ((shape ≡ Shape.Question) × (loose ≡ false)) }
-{
-    shape == Shape::Question && !loose
 }
 
 impl<'a> Reader<'a> {
@@ -201,7 +194,7 @@ impl<'a> Reader<'a> {
             place,
             params,
             names,
-            body: body.formula,
+            body,
         })?;
         Ok(())
     }
@@ -223,11 +216,8 @@ impl<'a> Reader<'a> {
         let body = self.formula(alloc, &file.signature, place)?;
         self.expect(TokenKind::Stop)?;
         let names = mem::replace(&mut self.names, Variables::new(alloc)).into_names(alloc)?;
-        let built = is_answered(body.shape, self.loose);
-        file.solves.push(Statement {
-            names,
-            body: body.formula,
-        })?;
+        let built = !self.loose;
+        file.solves.push(Statement { names, body })?;
         Ok(built)
     }
 

@@ -3,7 +3,6 @@ use formula_ast::{File, Formula, Statement, Term, Terms};
 use signature::{Kind, Signature};
 use std::alloc::{AllocError, Global};
 use std::fmt::Write;
-use std::process::Abort;
 use std::test::*;
 use tree_model::Symbol;
 
@@ -35,112 +34,110 @@ fn write_term(shown: &mut String, term: &Term) -> Result<(), AllocError> {
     }
 }
 
-fn term_text(alloc: Global, term: &Term) -> Result<String, AllocError> {
-    let mut shown = String::new(alloc);
-    write_term(&mut shown, term)?;
-    Ok(shown)
-}
-
-fn compared_text(
-    alloc: Global,
+fn write_compared(
+    shown: &mut String,
     left: &Term,
     mark: &str,
     right: &Term,
-) -> Result<String, AllocError> {
-    let left = term_text(alloc, left)?;
-    let right = term_text(alloc, right)?;
-    format!(in alloc; "{left} {mark} {right}")
+) -> Result<(), AllocError> {
+    write_term(shown, left)?;
+    write!(shown, " {mark} ")?;
+    write_term(shown, right)
 }
 
-fn called_text(alloc: Global, place: usize, arguments: &Terms) -> Result<String, AllocError> {
-    let mut shown = format!(in alloc; "#{place}")?;
-    write_arguments(&mut shown, arguments)?;
-    Ok(shown)
-}
-
-fn joined_text(
-    alloc: Global,
-    left: Result<String, AllocError>,
-    mark: &str,
-    right: Result<String, AllocError>,
-) -> Result<String, AllocError> {
-    let left = left?;
-    let right = right?;
-    format!(in alloc; "({left} {mark} {right})")
+// What joins the two parts of a formula that has two.
+fn mark_of(formula: &Formula) -> &'static str {
+    match formula {
+        Formula::And(_, _) => "&",
+        Formula::Or(_, _) => "|",
+        Formula::Imp(_, _) => "->",
+        _ => "<->",
+    }
 }
 
 // A formula with parentheses round each two that are joined.
-fn formula_text(alloc: Global, formula: &Formula) -> Result<String, AllocError> {
+fn write_formula(shown: &mut String, formula: &Formula) -> Result<(), AllocError> {
     match formula {
-        Formula::True => String::from_str(alloc, "true"),
-        Formula::False => String::from_str(alloc, "false"),
-        Formula::Eq(left, right) => compared_text(alloc, left, "=", right),
-        Formula::Differ(left, right) => compared_text(alloc, left, "!=", right),
+        Formula::True => write!(shown, "true"),
+        Formula::False => write!(shown, "false"),
+        Formula::Eq(left, right) => write_compared(shown, left, "=", right),
+        Formula::Differ(left, right) => write_compared(shown, left, "!=", right),
         Formula::Finite(term) => {
-            let term = term_text(alloc, term)?;
-            format!(in alloc; "finite {term}")
+            write!(shown, "finite ")?;
+            write_term(shown, term)
         }
-        Formula::Call(place, arguments) => called_text(alloc, *place, arguments),
+        Formula::Call(place, arguments) => {
+            write!(shown, "#{place}")?;
+            write_arguments(shown, arguments)
+        }
         Formula::Win(place, moves, term) => {
-            let term = term_text(alloc, term)?;
-            format!(in alloc; "win {place} {moves} {term}")
+            write!(shown, "win {place} {moves} ")?;
+            write_term(shown, term)
         }
         Formula::Not(inner) => {
-            let inner = formula_text(alloc, inner.get())?;
-            format!(in alloc; "~{inner}")
+            write!(shown, "~")?;
+            write_formula(shown, inner.get())
         }
-        Formula::And(left, right) => {
-            let left = formula_text(alloc, left.get());
-            joined_text(alloc, left, "&", formula_text(alloc, right.get()))
-        }
-        Formula::Or(left, right) => {
-            let left = formula_text(alloc, left.get());
-            joined_text(alloc, left, "|", formula_text(alloc, right.get()))
-        }
-        Formula::Imp(left, right) => {
-            let left = formula_text(alloc, left.get());
-            joined_text(alloc, left, "->", formula_text(alloc, right.get()))
-        }
-        Formula::Iff(left, right) => {
-            let left = formula_text(alloc, left.get());
-            joined_text(alloc, left, "<->", formula_text(alloc, right.get()))
+        Formula::And(left, right)
+        | Formula::Or(left, right)
+        | Formula::Imp(left, right)
+        | Formula::Iff(left, right) => {
+            write!(shown, "(")?;
+            write_formula(shown, left.get())?;
+            write!(shown, " {} ", mark_of(formula))?;
+            write_formula(shown, right.get())?;
+            write!(shown, ")")
         }
         Formula::Exists(number, body) => {
-            let body = formula_text(alloc, body.get())?;
-            format!(in alloc; "exists {number} {body}")
+            write!(shown, "exists {number} ")?;
+            write_formula(shown, body.get())
         }
         Formula::Forall(number, body) => {
-            let body = formula_text(alloc, body.get())?;
-            format!(in alloc; "forall {number} {body}")
+            write!(shown, "forall {number} ")?;
+            write_formula(shown, body.get())
         }
     }
 }
 
 // The names of a statement's variables, and its formula.
-fn write_statement(
-    alloc: Global,
-    shown: &mut String,
-    statement: &Statement,
-) -> Result<(), AllocError> {
+fn write_statement(shown: &mut String, statement: &Statement) -> Result<(), AllocError> {
     write!(shown, "[")?;
     for number in 0..statement.names.len() {
-        let name = statement.names.get(number);
-        write!(shown, "{name} ")?;
+        write!(shown, "{} ", statement.names.get(number))?;
     }
-    let body = formula_text(alloc, &statement.body)?;
-    write!(shown, "] {body}")
+    write!(shown, "] ")?;
+    write_formula(shown, &statement.body)
 }
 
 // The names that a file declares, and its questions.
-fn shown(alloc: Global, file: &File) -> Result<String, AllocError> {
-    let mut shown = String::new(alloc);
+fn write_file(shown: &mut String, file: &File) -> Result<(), AllocError> {
     for place in 0..file.signature.len() {
         let name = file.signature.name(place);
         let (kind, arity) = file.signature.entry(place);
         write!(shown, "{kind:?} {name}/{arity}. ")?;
     }
     for i in 0..file.solves.len() {
-        write_statement(alloc, &mut shown, file.solves.get(i))?;
+        write_statement(shown, file.solves.get(i))?;
+    }
+    Ok(())
+}
+
+// What the text of a formula is read as: a statement, or the fault that it is refused for.
+fn read_as(alloc: Global, signature: &Signature, text: &str) -> Result<String, AllocError> {
+    let mut shown = String::new(alloc);
+    match read_formula(alloc, signature, text.as_bytes()) {
+        Ok(statement) => write_statement(&mut shown, &statement)?,
+        Err(error) => write!(shown, "{error}")?,
+    }
+    Ok(shown)
+}
+
+// What the text of a file is read as.
+fn file_read_as(alloc: Global, text: &str) -> Result<String, AllocError> {
+    let mut shown = String::new(alloc);
+    match read_file(alloc, text.as_bytes()) {
+        Ok(file) => write_file(&mut shown, &file)?,
+        Err(error) => write!(shown, "{error}")?,
     }
     Ok(shown)
 }
@@ -155,96 +152,65 @@ fn signature(alloc: Global) -> Result<Signature, Fail> {
     Ok(signature)
 }
 
-fn refused(
-    rt: &impl Abort,
-    read: Result<(), ReadError>,
-    text: &str,
-    offset: usize,
-    kind: FaultKind,
-) {
-    assert_eq!(rt;
-        read,
-        Err(ReadError::Refused(Fault { offset, kind })),
-        "{text}"
-    );
-}
+// What formulas are read as, and behind the sign `<<` their texts.
+const FORMULAS: &str = "\
+[Y X ] exists 0 1 = #0(0) << exists Y: X = f(Y)
+[] (true -> (false -> true)) << ((true -> (false -> true)))
+[] ((true -> false) -> true) << (true -> false) -> true
+[] ((true & false) | (true & true)) << true & false | true & true
+[] ((true | false) | true) << true | false | true
+[] ((true & false) & true) << true & false & true
+[] (~true & false) << ~true & false
+[] ~(true & false) << ~(true & false)
+[X Y ] (exists 0 0 = #1 & 1 = #1) << exists X: X = a & Y = a
+[X Y Z ] exists 0 exists 1 (0 = 1 & 2 != #1) << exists X Y: (X = Y & Z != a)
+[X Y ] forall 0 ~exists 1 exists 0 #2(1) << forall X: ~exists Y X: p(Y)
+[X ] (finite #0(0) <-> #2(#1)) << finite(f(X)) <-> p(a)
+[X ] win 3 7 #0(0) << win(m, 007, f(X))
+[X ] (#0(0) = #1 -> #1 != $12(0, #1)) << f(X) = a -> a != $12(X, a)
+[X ] $3 = 0 << $3 = X
+[] (true -> (false | true)) << true -> false | true
+[Y X Z ] ((#2(0) & #3(1, 0)) & finite 2) << p(Y) & m(X, Y) & finite(Z)";
 
 #[test]
 fn operators_bind_by_their_strength(rt: HostRuntime) -> Result<(), Fail> {
     let signature = signature(rt.alloc())?;
-    for (text, statement) in [
-        ("exists Y: X = f(Y)", "[Y X ] exists 0 1 = #0(0)"),
-        (
-            "((true -> (false -> true)))",
-            "[] (true -> (false -> true))",
-        ),
-        ("(true -> false) -> true", "[] ((true -> false) -> true)"),
-        (
-            "true & false | true & true",
-            "[] ((true & false) | (true & true))",
-        ),
-        ("true | false | true", "[] ((true | false) | true)"),
-        ("true & false & true", "[] ((true & false) & true)"),
-        ("~true & false", "[] (~true & false)"),
-        ("~(true & false)", "[] ~(true & false)"),
-        (
-            "exists X: X = a & Y = a",
-            "[X Y ] (exists 0 0 = #1 & 1 = #1)",
-        ),
-        (
-            "exists X Y: (X = Y & Z != a)",
-            "[X Y Z ] exists 0 exists 1 (0 = 1 & 2 != #1)",
-        ),
-        (
-            "forall X: ~exists Y X: p(Y)",
-            "[X Y ] forall 0 ~exists 1 exists 0 #2(1)",
-        ),
-        ("finite(f(X)) <-> p(a)", "[X ] (finite #0(0) <-> #2(#1))"),
-        ("win(m, 007, f(X))", "[X ] win 3 7 #0(0)"),
-        (
-            "f(X) = a -> a != $12(X, a)",
-            "[X ] (#0(0) = #1 -> #1 != $12(0, #1))",
-        ),
-        ("$3 = X", "[X ] $3 = 0"),
-        ("true -> false | true", "[] (true -> (false | true))"),
-        (
-            "p(Y) & m(X, Y) & finite(Z)",
-            "[Y X Z ] ((#2(0) & #3(1, 0)) & finite 2)",
-        ),
-    ] {
-        let read = read_formula(rt.alloc(), &signature, text.as_bytes())?;
-        let mut written = String::new(rt.alloc());
-        write_statement(rt.alloc(), &mut written, &read)?;
-        assert_eq!(rt; written.as_str(), statement, "{text}");
+    for line in FORMULAS.lines() {
+        let (wanted, text) = line.split_once(" << ").ok_or("a row has two parts")?;
+        let read = read_as(rt.alloc(), &signature, text)?;
+        assert_eq!(rt; read.as_str(), wanted, "{text}");
     }
     Ok(())
 }
 
+// The faults of texts that are no formulas, and behind the sign `<<` the texts.
+const REFUSED_FORMULAS: &str = "\
+byte 1: Arity << f
+byte 1: Sort << a
+byte 9: Sort << f(X)  % c
+byte 2: Ended << (f
+byte 1: Arity << p
+byte 3: Ended << p(X
+byte 5: Syntax << true )
+byte 0: Ended <<\x20
+byte 8: Ended << exists X
+byte 4: Unknown << X = b
+byte 3: Arity << m(X)
+byte 8: Sort << m(X, Y) = X
+byte 4: Sort << a = p(X)
+byte 4: Sort << win(a, 1, X)
+byte 6: Ended << true &
+byte 6: Syntax << X = a = a
+byte 0: Byte << # true
+byte 4: Limit << X = $99999999999999999999";
+
 #[test]
 fn other_formulas_are_refused_at_their_first_fault(rt: HostRuntime) -> Result<(), Fail> {
     let signature = signature(rt.alloc())?;
-    for (text, offset, kind) in [
-        ("f", 1, FaultKind::Arity),
-        ("a", 1, FaultKind::Sort),
-        ("f(X)  % c", 9, FaultKind::Sort),
-        ("(f", 2, FaultKind::Ended),
-        ("p", 1, FaultKind::Arity),
-        ("p(X", 3, FaultKind::Ended),
-        ("true )", 5, FaultKind::Syntax),
-        ("", 0, FaultKind::Ended),
-        ("exists X", 8, FaultKind::Ended),
-        ("X = b", 4, FaultKind::Unknown),
-        ("m(X)", 3, FaultKind::Arity),
-        ("m(X, Y) = X", 8, FaultKind::Sort),
-        ("a = p(X)", 4, FaultKind::Sort),
-        ("win(a, 1, X)", 4, FaultKind::Sort),
-        ("true &", 6, FaultKind::Ended),
-        ("X = a = a", 6, FaultKind::Syntax),
-        ("# true", 0, FaultKind::Byte),
-        ("X = $99999999999999999999", 4, FaultKind::Limit),
-    ] {
-        let read = read_formula(rt.alloc(), &signature, text.as_bytes());
-        refused(&rt, read.map(|_| ()), text, offset, kind);
+    for line in REFUSED_FORMULAS.lines() {
+        let (wanted, text) = line.split_once(" << ").ok_or("a row has two parts")?;
+        let read = read_as(rt.alloc(), &signature, text)?;
+        assert_eq!(rt; read.as_str(), wanted, "{text}");
     }
     Ok(())
 }
@@ -255,16 +221,21 @@ fn a_formula_may_use_names_past_the_limits_of_files(rt: HostRuntime) -> Result<(
     signature.declare("wide", Kind::Symbol, 9)?;
     let long = format!(in rt.alloc(); "{NAME_OF_64}4")?;
     signature.declare(&long, Kind::Symbol, 0)?;
-    let text = "X = wide(a, a, a, a, a, a, a, a, a)";
-    assert!(rt; read_formula(rt.alloc(), &signature, text.as_bytes()).is_ok());
+    let wide = read_as(
+        rt.alloc(),
+        &signature,
+        "X = wide(a, a, a, a, a, a, a, a, a)",
+    )?;
+    let applied = "[X ] 0 = #4(#1, #1, #1, #1, #1, #1, #1, #1, #1)";
+    assert_eq!(rt; wide.as_str(), applied);
     let text = format!(in rt.alloc(); "X = {long}")?;
-    let read = read_formula(rt.alloc(), &signature, text.as_bytes());
-    refused(&rt, read.map(|_| ()), &text, 4, FaultKind::Limit);
+    let refused = read_as(rt.alloc(), &signature, &text)?;
+    assert_eq!(rt; refused.as_str(), "byte 4: Limit");
     Ok(())
 }
 
 #[test]
-fn files_of_equations_are_read(rt: HostRuntime) -> Result<(), Fail> {
+fn files_of_closed_questions_are_read(rt: HostRuntime) -> Result<(), Fail> {
     for (text, file) in [
         ("", ""),
         (" \t\r\n% solve\n% é", ""),
@@ -276,131 +247,99 @@ fn files_of_equations_are_read(rt: HostRuntime) -> Result<(), Fail> {
             "%f\nsymbol%g\nf/1.solve exists X_1:(X_1=f(X_1)&X_1=X_1).% the end",
             "Symbol f/1. [X_1 ] exists 0 (0 = #0(0) & 0 = 0)",
         ),
+        (
+            "solve ((true)). solve exists X: ~forall Y: (X != Y -> finite(X) | false <-> true).",
+            "[] true[X Y ] exists 0 ~forall 1 ((0 != 1 -> (finite 0 | false)) <-> true)",
+        ),
     ] {
-        let read = read_file(rt.alloc(), text.as_bytes())?;
-        let read = shown(rt.alloc(), &read)?;
+        let read = file_read_as(rt.alloc(), text)?;
         assert_eq!(rt; read.as_str(), file, "{text}");
     }
     Ok(())
 }
 
+// The faults of texts that are no files, and behind the sign `<<` the texts.
+const REFUSED_FILES: &str = "\
+byte 0: Byte << #
+byte 11: Ended << solve X = X
+byte 6: Syntax << solve .
+byte 20: Syntax << solve true <-> true <-> true.
+byte 6: Unknown << solve q(X).
+byte 12: Twice << symbol f/1, f/2.
+byte 17: Loose << pred p(X) := X = Y.
+byte 22: Sort << symbol f/1. solve f(X).
+byte 9: Limit << symbol f/9.
+byte 21: Arity << symbol f/2. solve f(X) = X.
+byte 20: Syntax << symbol f/1. solve f ,
+byte 24: Syntax << symbol f/1. solve X = f ,
+byte 30: Arity << symbol f/1, g/2. solve g(X, f ,
+byte 27: Syntax << symbol f/1. solve finite(f ,
+byte 20: Syntax << symbol a/0. solve a )
+byte 21: Sort << symbol a/0. solve (a )
+byte 39: Arity << pred p(X) := true. symbol a/0. solve p = a.
+byte 24: Sort << pred q := true. solve q = q.
+byte 10: Twice << pred p(X, X) := true.
+byte 17: Twice << symbol p/0. pred p := true.
+byte 21: Twice << pred p := true. pred p := true.
+byte 10: Unknown << pred p := p.
+byte 31: Loose << pred p(X) := exists Y: Y = X & Y = X.
+byte 0: NotBuilt << pred p := exists X: exists X: X = X.
+byte 19: Arity << symbol a/0. solve a(X) = a.
+byte 21: Arity << symbol f/1. solve f(X, Y) = X.
+byte 24: Syntax << symbol f/1. solve X = f() .
+byte 29: Sort << pred p(X) := true. solve X = p(X).
+byte 44: Sort << pred m(X, Y) := true. symbol f/1. solve win(f, 1, X).
+byte 29: Arity << pred m(X) := true. solve win(m, 1, X).
+byte 10: Unknown << solve win(m, 1, X).
+byte 35: Limit << pred m(X, Y) := true. solve win(m, 1001, X).
+byte 0: NotBuilt << pred m(X, Y) := true. solve win(m, 0001000, X).
+byte 6: Limit << solve $18446744073709551616 = X.
+byte 0: NotBuilt << solve $0(X,X,X,X,X,X,X,X) = X.
+byte 24: Limit << solve $0(X,X,X,X,X,X,X,X,X) = X.
+byte 34: NotBuilt << symbol f/00000000000000000000008. solve X = X.
+byte 12: NotBuilt << symbol a/0. pred p(X) := X = a.
+byte 39: Ended << solve exists X: X = X. solve true. pred
+byte 0: NotBuilt << solve exists X: X = Y.
+byte 0: NotBuilt << solve exists X: X = X & finite(X).
+byte 0: NotBuilt << solve ~finite($1(X)).
+byte 0: NotBuilt << pred p := true. solve p. solve X = X.
+byte 12: NotBuilt << solve true. solve X = X. pred p := true.
+byte 23: NotBuilt << solve forall X: X = X. pred p := true. solve X = X.
+byte 12: Byte << solve true. #
+byte 18: Ended << solve true. symbol
+byte 15: Ended << solve X = X % c
+byte 8: Syntax << solve X ->\x20
+byte 7: Ended << solve ~
+byte 7: Syntax << solve ()
+byte 7: Syntax << solve X.
+byte 12: Syntax << solve X = X = X.
+byte 14: Syntax << solve exists X.
+byte 12: Syntax << solve exists: X = X.
+byte 7: Syntax << symbol .
+byte 8: Syntax << symbol f.
+byte 9: Syntax << symbol f/.
+byte 7: Syntax << symbol F/1.
+byte 5: Syntax << pred P := true.
+byte 7: Syntax << pred p() := true.
+byte 9: Syntax << pred p(X := true.
+byte 7: Syntax << pred p = true.
+byte 13: Syntax << solve true | & true.
+byte 13: Syntax << solve finite X.
+byte 10: Syntax << solve win(1).
+byte 0: Syntax << true
+byte 0: Syntax << .
+byte 10: Byte << solve X = \x0c X.
+byte 6: Byte << solve <- X.
+byte 6: Unknown << solve a b.";
+
 #[test]
-fn other_files_are_refused_at_their_first_fault(rt: HostRuntime) {
-    for (text, offset, kind) in &[
-        ("#", 0, FaultKind::Byte),
-        ("solve X = X", 11, FaultKind::Ended),
-        ("solve .", 6, FaultKind::Syntax),
-        ("solve true <-> true <-> true.", 20, FaultKind::Syntax),
-        ("solve q(X).", 6, FaultKind::Unknown),
-        ("symbol f/1, f/2.", 12, FaultKind::Twice),
-        ("pred p(X) := X = Y.", 17, FaultKind::Loose),
-        ("symbol f/1. solve f(X).", 22, FaultKind::Sort),
-        ("symbol f/9.", 9, FaultKind::Limit),
-        ("symbol f/2. solve f(X) = X.", 21, FaultKind::Arity),
-        ("symbol f/1. solve f ,", 20, FaultKind::Syntax),
-        ("symbol f/1. solve X = f ,", 24, FaultKind::Syntax),
-        ("symbol f/1, g/2. solve g(X, f ,", 30, FaultKind::Arity),
-        ("symbol f/1. solve finite(f ,", 27, FaultKind::Syntax),
-        ("symbol a/0. solve a )", 20, FaultKind::Syntax),
-        ("symbol a/0. solve (a )", 21, FaultKind::Sort),
-        (
-            "pred p(X) := true. symbol a/0. solve p = a.",
-            39,
-            FaultKind::Arity,
-        ),
-        ("pred q := true. solve q = q.", 24, FaultKind::Sort),
-        ("pred p(X, X) := true.", 10, FaultKind::Twice),
-        ("symbol p/0. pred p := true.", 17, FaultKind::Twice),
-        ("pred p := true. pred p := true.", 21, FaultKind::Twice),
-        ("pred p := p.", 10, FaultKind::Unknown),
-        (
-            "pred p(X) := exists Y: Y = X & Y = X.",
-            31,
-            FaultKind::Loose,
-        ),
-        (
-            "pred p := exists X: exists X: X = X.",
-            0,
-            FaultKind::NotBuilt,
-        ),
-        ("symbol a/0. solve a(X) = a.", 19, FaultKind::Arity),
-        ("symbol f/1. solve f(X, Y) = X.", 21, FaultKind::Arity),
-        ("symbol f/1. solve X = f() .", 24, FaultKind::Syntax),
-        ("pred p(X) := true. solve X = p(X).", 29, FaultKind::Sort),
-        (
-            "pred m(X, Y) := true. symbol f/1. solve win(f, 1, X).",
-            44,
-            FaultKind::Sort,
-        ),
-        (
-            "pred m(X) := true. solve win(m, 1, X).",
-            29,
-            FaultKind::Arity,
-        ),
-        ("solve win(m, 1, X).", 10, FaultKind::Unknown),
-        (
-            "pred m(X, Y) := true. solve win(m, 1001, X).",
-            35,
-            FaultKind::Limit,
-        ),
-        (
-            "pred m(X, Y) := true. solve win(m, 0001000, X).",
-            0,
-            FaultKind::NotBuilt,
-        ),
-        ("solve $18446744073709551616 = X.", 6, FaultKind::Limit),
-        ("solve $0(X,X,X,X,X,X,X,X) = X.", 0, FaultKind::NotBuilt),
-        ("solve $0(X,X,X,X,X,X,X,X,X) = X.", 24, FaultKind::Limit),
-        (
-            "symbol f/00000000000000000000008. solve X = X.",
-            34,
-            FaultKind::NotBuilt,
-        ),
-        ("symbol a/0. pred p(X) := X = a.", 12, FaultKind::NotBuilt),
-        (
-            "solve exists X: X = X. solve true. pred",
-            39,
-            FaultKind::Ended,
-        ),
-        ("solve exists X: ((X = X)).", 0, FaultKind::NotBuilt),
-        ("solve exists X: exists Y: X = Y.", 0, FaultKind::NotBuilt),
-        ("solve exists X: X = Y.", 0, FaultKind::NotBuilt),
-        ("solve exists X: (X = X & (X = X)).", 0, FaultKind::NotBuilt),
-        ("solve exists X: X != X.", 0, FaultKind::NotBuilt),
-        ("solve forall X: X = X.", 0, FaultKind::NotBuilt),
-        ("solve (exists X: X = X).", 0, FaultKind::NotBuilt),
-        ("solve exists X: X = X & true.", 0, FaultKind::NotBuilt),
-        ("solve exists X: (X = X | X = X).", 0, FaultKind::NotBuilt),
-        ("solve true. #", 12, FaultKind::Byte),
-        ("solve true. symbol", 18, FaultKind::Ended),
-        ("solve X = X % c", 15, FaultKind::Ended),
-        ("solve X -> ", 8, FaultKind::Syntax),
-        ("solve ~", 7, FaultKind::Ended),
-        ("solve ()", 7, FaultKind::Syntax),
-        ("solve X.", 7, FaultKind::Syntax),
-        ("solve X = X = X.", 12, FaultKind::Syntax),
-        ("solve exists X.", 14, FaultKind::Syntax),
-        ("solve exists: X = X.", 12, FaultKind::Syntax),
-        ("symbol .", 7, FaultKind::Syntax),
-        ("symbol f.", 8, FaultKind::Syntax),
-        ("symbol f/.", 9, FaultKind::Syntax),
-        ("symbol F/1.", 7, FaultKind::Syntax),
-        ("pred P := true.", 5, FaultKind::Syntax),
-        ("pred p() := true.", 7, FaultKind::Syntax),
-        ("pred p(X := true.", 9, FaultKind::Syntax),
-        ("pred p = true.", 7, FaultKind::Syntax),
-        ("solve true | & true.", 13, FaultKind::Syntax),
-        ("solve finite X.", 13, FaultKind::Syntax),
-        ("solve win(1).", 10, FaultKind::Syntax),
-        ("true", 0, FaultKind::Syntax),
-        (".", 0, FaultKind::Syntax),
-        ("solve X = \x0c X.", 10, FaultKind::Byte),
-        ("solve <- X.", 6, FaultKind::Byte),
-        ("solve a b.", 6, FaultKind::Unknown),
-    ] {
-        let read = read_file(rt.alloc(), text.as_bytes());
-        refused(&rt, read.map(|_| ()), text, *offset, *kind);
+fn other_files_are_refused_at_their_first_fault(rt: HostRuntime) -> Result<(), Fail> {
+    for line in REFUSED_FILES.lines() {
+        let (wanted, text) = line.split_once(" << ").ok_or("a row has two parts")?;
+        let read = file_read_as(rt.alloc(), text)?;
+        assert_eq!(rt; read.as_str(), wanted, "{text}");
     }
+    Ok(())
 }
 
 #[test]

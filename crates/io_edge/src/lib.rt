@@ -8,7 +8,6 @@
 mod failed;
 mod memory_sink;
 mod memory_source;
-mod no_memory;
 mod sink;
 mod source;
 mod stored;
@@ -17,9 +16,9 @@ mod system;
 mod tests;
 
 pub use failed::Failed;
+pub use lists::NoMemory;
 pub use memory_sink::MemorySink;
 pub use memory_source::MemorySource;
-pub use no_memory::NoMemory;
 pub use sink::Sink;
 pub use source::Source;
 pub use system::{ErrSink, FileSource, OutSink};

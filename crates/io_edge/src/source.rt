@@ -1,5 +1,5 @@
 // Where files are read from.
-ghost use Rattle.std.specs.Prelude.{◌≡◌, ◌⊎◌, ◌≤◌, ℕ, Bool, true, false, List, Option, Result, length, OnOk, OnErr, IsErr};
+ghost use Rattle.std.specs.Prelude.{◌≡◌, ◌⊎◌, ◌≤◌, ℕ, Bool, true, false, List, Option, Result, length, drop, OnOk, OnErr, IfOk, IsErr};
 ghost use Rattle.std.specs.Io.{ReadsAtMost};
 ghost use Rattle.std.specs.Io.KnownBytes.{ReadConsumes, IsAtEnd};
 ghost use Rattle.io_edge.specs.Edge.{Rose, IsMissing, OpensAt};
@@ -42,7 +42,8 @@ pub trait Source {
         ensures call { opens self.old name.now result self.new };
 
     /// Reads on from the open file into the front of the buffer. `Ok(0)` into a buffer with room means its end, or
-    /// that no file is open. A failure takes no bytes: what is left stays.
+    /// that no file is open. What stands behind the bytes that are counted stays. A failure takes no bytes: what is left
+    /// stays, and so does the whole buffer.
     fn read(&mut self, into: &mut [u8]) -> Result<usize, Failed>
         ensures files { files self.new ≡ files self.old }
         ensures opened { opened self.new ≡ opened self.old }
@@ -51,5 +52,7 @@ pub trait Source {
         ensures closed { opened self.old ≡ false → result ≡ Ok 0 }
         ensures bound { ReadsAtMost result into.new }
         ensures bytes { ReadConsumes (left self.old) (left self.new) result into.new }
+        ensures behind { IfOk result (λ n. drop n into.new ≡ drop n into.old) }
+        ensures kept { OnErr result (into.new ≡ into.old) }
         ensures call { reads self.old (length into.old) result into.new self.new };
 }

@@ -1,8 +1,8 @@
 // The system's files and streams. They count their failures, and tell of bytes what the file or the stream tells:
 // those of the system tell nothing.
-ghost use Rattle.std.specs.Prelude.{◌≡◌, ◌<◌, ◌≤◌, [], Some, false, length, IfOk};
-ghost use Rattle.std.specs.Io.{WritesAtMost};
-ghost use Rattle.std.specs.Io.KnownBytes.{WriteAppends};
+ghost use Rattle.std.specs.Prelude.{◌≡◌, ◌<◌, ◌≤◌, [], Some, false, length, drop, IfOk, OnErr};
+ghost use Rattle.std.specs.Io.{ReadsAtMost, WritesAtMost};
+ghost use Rattle.std.specs.Io.KnownBytes.{ReadConsumes, WriteAppends};
 ghost use Rattle.io_edge.specs.Counts.{after_answer};
 
 use crate::{Failed, Sink, Source};
@@ -11,7 +11,10 @@ use std::io::{Read, Write};
 use std::marker::Model;
 use std::rt::Files;
 
-/// Files by their paths. Each call that fails raises the count by one, also an `open` of a path that is not there.
+// How many bytes one read of a file takes at most.
+const PIECE: usize = 4096;
+
+/// Files by their paths. A read takes at most 4,096 bytes. Each call that fails raises the count by one, also an `open` of a path that is not there.
 #[derive(Drop)]
 pub struct FileSource<R: Files> {
     system: R,
@@ -41,6 +44,33 @@ impl<R: Files> FileSource<R> {
             system,
             file: None,
             faults: 0,
+        }
+    }
+}
+
+// A read of a file, by way of a buffer of its own: a reader may write anywhere in the one that it is lent.
+pub(crate) fn read_counted<F: Read>(
+    file: &mut F,
+    faults: &mut u64,
+    into: &mut [u8],
+) -> Result<usize, Failed>
+    ensures exactly { faults.new ≡ after_answer faults.old result }
+    ensures count { faults.old ≤ faults.new }
+    ensures bound { ReadsAtMost result into.new }
+    ensures bytes { ReadConsumes (F.remaining file.old) (F.remaining file.new) result into.new }
+    ensures behind { IfOk result (λ n. drop n into.new ≡ drop n into.old) }
+    ensures kept { OnErr result (into.new ≡ into.old) }
+{
+    let mut piece = [0; PIECE];
+    let room = PIECE.min(into.len());
+    match file.read(&mut piece[..room]) {
+        Ok(count) => {
+            into[..count].copy_from_slice(&piece[..count]);
+            Ok(count)
+        }
+        Err(_) => {
+            *faults = faults.saturating_add(1);
+            Err(Failed)
         }
     }
 }
@@ -78,13 +108,7 @@ impl<R: Files> Source for FileSource<R> {
     fn read(&mut self, into: &mut [u8]) -> Result<usize, Failed> {
         match &mut self.file {
             None => Ok(0),
-            Some(file) => match file.read(into) {
-                Ok(count) => Ok(count),
-                Err(_) => {
-                    self.faults = self.faults.saturating_add(1);
-                    Err(Failed)
-                }
-            },
+            Some(file) => read_counted(file, &mut self.faults, into),
         }
     }
 }

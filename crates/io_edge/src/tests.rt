@@ -1,20 +1,27 @@
+use crate::system::read_counted;
 use crate::{ErrSink, Failed, FileSource, MemorySink, MemorySource, OutSink, Sink, Source};
 use std::alloc::Global;
-use std::io::Write;
+use std::io::{Read, Write};
 use std::process::Abort;
 use std::test::Fail;
 use std::{env, fs, io, process};
 
-// What one read gives, into a buffer with this room.
+// What stands in a buffer before a read.
+const MARK: u8 = b'#';
+
+// What one read gives, into a buffer with this room. What it does not count has to stay as it was.
 fn read_once<S: Source>(
+    rt: &impl Abort,
     alloc: Global,
     source: &mut S,
     room: usize,
 ) -> Result<Result<Vec<u8>, Failed>, Fail> {
-    let mut buffer = [0; 8];
-    let into = &mut buffer[..room.min(8)];
-    match source.read(into) {
-        Ok(count) => Ok(Ok(into[..count].to_vec(alloc)?)),
+    let mut buffer = [MARK; 8];
+    let answer = source.read(&mut buffer[..room.min(8)]);
+    let count = answer.unwrap_or(0).min(8);
+    assert!(rt; buffer[count..].iter().all(|&byte| byte == MARK));
+    match answer {
+        Ok(_) => Ok(Ok(buffer[..count].to_vec(alloc)?)),
         Err(failed) => Ok(Err(failed)),
     }
 }
@@ -26,7 +33,7 @@ fn expect_read<S: Source>(
     room: usize,
     wanted: &[u8],
 ) -> Result<(), Fail> {
-    match read_once(alloc, source, room)? {
+    match read_once(rt, alloc, source, room)? {
         Ok(bytes) => assert_eq!(rt; bytes.as_slice(), wanted),
         Err(_) => assert!(rt; false, "the read failed"),
     }
@@ -67,7 +74,7 @@ fn the_calls_that_are_to_fail_fail_but_for_a_closed_read(rt: HostRuntime) -> Res
     expect_read(&rt, alloc, &mut source, 8, b"")?;
     assert_eq!(rt; source.open("a"), Err(Failed));
     assert_eq!(rt; source.open("a"), Ok(()));
-    assert!(rt; read_once(alloc, &mut source, 8)?.is_err());
+    assert!(rt; read_once(&rt, alloc, &mut source, 8)?.is_err());
     expect_read(&rt, alloc, &mut source, 8, b"first")?;
     Ok(())
 }
@@ -105,25 +112,47 @@ fn a_sink_takes_a_few_bytes_at_a_time_and_none_at_a_failure(rt: HostRuntime) -> 
     Ok(())
 }
 
-// A directory can be opened and not read.
+// The path of a file in the folder for what is needed for a while, with a space at each end of its name.
+fn spaced_path(rt: &HostRuntime) -> Result<String, Fail> {
+    let alloc = rt.alloc();
+    let folder = env::temp_dir(rt)?;
+    let name = format!(in alloc; " io_edge {} ", process::id(rt.process()))?;
+    let path = folder.join(alloc, name.as_str())?;
+    Ok(String::from_str(alloc, path.as_str())?)
+}
+
 #[test]
 fn a_file_of_the_system_is_read(rt: HostRuntime) -> Result<(), Fail> {
     let alloc = rt.alloc();
-    let folder = env::temp_dir(&rt)?;
-    let name = format!(in alloc; "io_edge_{}.txt", process::id(rt.process()))?;
-    let path = folder.join(alloc, name.as_str())?;
-    fs::write(&rt, path.as_path(), "abc")?;
+    let path = spaced_path(&rt)?;
+    fs::write(&rt, path.as_str(), "abc")?;
     let mut source = FileSource::new(&rt);
     expect_read(&rt, alloc, &mut source, 8, b"")?;
     assert_eq!(rt; source.open(path.as_str()), Ok(()));
     expect_read(&rt, alloc, &mut source, 2, b"ab")?;
     expect_read(&rt, alloc, &mut source, 8, b"c")?;
     expect_read(&rt, alloc, &mut source, 8, b"")?;
-    fs::remove_file(&rt, path.as_path())?;
+    fs::remove_file(&rt, path.as_str())?;
     assert_eq!(rt; source.open(path.as_str()), Err(Failed));
     expect_read(&rt, alloc, &mut source, 8, b"")?;
+    Ok(())
+}
+
+#[test]
+fn a_folder_can_be_opened_and_not_read(rt: HostRuntime) -> Result<(), Fail> {
+    let folder = env::temp_dir(&rt)?;
+    let mut source = FileSource::new(&rt);
     assert_eq!(rt; source.open(folder.as_str()), Ok(()));
-    assert!(rt; read_once(alloc, &mut source, 8)?.is_err());
+    assert!(rt; read_once(&rt, rt.alloc(), &mut source, 8)?.is_err());
+    Ok(())
+}
+
+// No system lets the file of a program that runs be opened for writing.
+#[test]
+fn a_file_that_must_not_be_written_is_read(rt: HostRuntime) -> Result<(), Fail> {
+    let mut source = FileSource::new(&rt);
+    assert_eq!(rt; source.open("/proc/self/exe"), Ok(()));
+    expect_read(&rt, rt.alloc(), &mut source, 4, b"\x7fELF")?;
     Ok(())
 }
 
@@ -138,21 +167,27 @@ fn the_streams_of_the_system_take_bytes(rt: HostRuntime) -> Result<(), Fail> {
     Ok(())
 }
 
-// A stream that takes two bytes, then none, and then fails.
+// A stream whose first call takes two bytes, whose second takes none, whose third fails, and which then works.
 #[derive(Drop)]
-struct Broken {
+struct Flaky {
     calls: u8,
 }
 
-impl Write for Broken {
-    fn write(&mut self, buf: &[u8]) -> io::Result<usize> {
+impl Flaky {
+    fn next(&mut self, most: usize) -> io::Result<usize> {
         let call = self.calls;
         self.calls = call.saturating_add(1);
         match call {
-            0 => Ok(buf.len().min(2)),
             1 => Ok(0),
-            _ => Err(io::Error::from(io::ErrorKind::Other)),
+            2 => Err(io::Error::from(io::ErrorKind::Other)),
+            _ => Ok(most.min(2)),
         }
+    }
+}
+
+impl Write for Flaky {
+    fn write(&mut self, buf: &[u8]) -> io::Result<usize> {
+        self.next(buf.len())
     }
 
     fn flush(&mut self) -> io::Result<()> {
@@ -160,14 +195,40 @@ impl Write for Broken {
     }
 }
 
-fn expect_broken<S: Sink>(rt: &impl Abort, sink: &mut S) {
+// It writes into the whole buffer whatever it answers.
+impl Read for Flaky {
+    fn read(&mut self, buf: &mut [u8]) -> io::Result<usize> {
+        buf.fill(b'x');
+        self.next(buf.len())
+    }
+}
+
+fn expect_flaky<S: Sink>(rt: &impl Abort, sink: &mut S) {
     assert_eq!(rt; sink.write(b"abc"), Ok(2));
     assert_eq!(rt; sink.write(b"c"), Err(Failed));
     assert_eq!(rt; sink.write(b"c"), Err(Failed));
+    assert_eq!(rt; sink.write(b"c"), Ok(1));
 }
 
 #[test]
-fn a_stream_that_takes_nothing_or_fails_is_a_failure(rt: HostRuntime) {
-    expect_broken(&rt, &mut OutSink::new(Broken { calls: 0 }));
-    expect_broken(&rt, &mut ErrSink::new(Broken { calls: 0 }));
+fn a_stream_that_takes_nothing_or_fails_is_a_failure_and_is_called_once(rt: HostRuntime) {
+    expect_flaky(&rt, &mut OutSink::new(Flaky { calls: 0 }));
+    expect_flaky(&rt, &mut ErrSink::new(Flaky { calls: 0 }));
+}
+
+#[test]
+fn a_read_that_fails_is_a_failure_and_leaves_the_buffer(rt: HostRuntime) {
+    let mut file = Flaky { calls: 0 };
+    let mut faults = 0;
+    for (answer, left) in [
+        (Ok(2), b"xx#"),
+        (Ok(0), b"###"),
+        (Err(Failed), b"###"),
+        (Ok(2), b"xx#"),
+    ] {
+        let mut buffer = [MARK; 3];
+        assert_eq!(rt; read_counted(&mut file, &mut faults, &mut buffer), answer);
+        assert_eq!(rt; &buffer, left);
+    }
+    assert_eq!(rt; faults, 1);
 }

@@ -1,13 +1,15 @@
--- What is read as a question that is answered by now is a closed conjunction of equations.
-use Rattle.std.proofs.Common.{◌≡◌, ℕ, zero, suc, ◌-◌, ◌≤◌, List, [], ◌∷◌, ◌++◌, map, length, Bool, true, false, ◌&&◌, ◌||◌, Option, Some, None, All, inl, inr, refl, sym, ◌∙◌, ap, subst, arith}
+-- What is read as a question that is answered by now is closed and calls no predicate.
+use Rattle.std.proofs.Common.{◌≡◌, ◌≢◌, ◌⊎◌, ⊎_elim, ℕ, zero, suc, ◌-◌, ◌≤◌, List, [], ◌∷◌, ◌++◌, map, length, Bool, true, false, ◌&&◌, ◌||◌, Option, Some, None, All, inl, inr, refl, sym, ◌∙◌, ap, subst, arith}
 use Rattle.std.specs.Prelude.{Contains, slice_get, option_and_then}
 use Rattle.std.specs.Str.{bytes_eq}
-use Rattle.std.proofs.lemmas.List.Elements.{All-head, All-tail, All-push, All-nil}
+use Rattle.std.proofs.lemmas.List.{map-append}
+use Rattle.std.proofs.lemmas.List.Elements.{All-head, All-tail, All-push, All-nil, All-append, All-map, Contains-append_cases}
 use Rattle.std.proofs.lemmas.Option.{get_or_from_slice_get}
 use Rattle.std.proofs.lemmas.Slice.Eq.{bytes_eq-Decides}
+use Rattle.tree_model.specs.declared.kind.Kind.TheVariants as kind
 use Rattle.tree_model.specs.declared.tree.Symbol.{Symbol}
 use Rattle.tree_model.specs.declared.tree.Symbol.TheVariants.{Named, Further}
-use Rattle.tree_model.specs.Signatures.{Signature}
+use Rattle.tree_model.specs.Signatures.{Signature, Entry, declared_at}
 use Rattle.formula_ast.specs.declared.term.Term.{Term}
 use Rattle.formula_ast.specs.declared.term.Term.TheOpen.{Term-F}
 use Rattle.formula_ast.specs.declared.term.Term.TheOpen as layer
@@ -15,20 +17,18 @@ use Rattle.formula_ast.specs.declared.term.Term.TheViews.{out-Term}
 use Rattle.formula_ast.specs.declared.term.Term.TheVariants as term
 use Rattle.formula_ast.specs.declared.term.Terms.{Terms}
 use Rattle.formula_ast.specs.declared.pred.Pred.{Pred}
-use Rattle.formula_ast.specs.Forms.{Form, form_of, equal, and, exists}
+use Rattle.formula_ast.specs.Forms as form
+use Rattle.formula_ast.specs.Forms.{Form, form_of}
 use Rattle.formula_ast.specs.Terms.{list_of, argument, subterm}
-use Rattle.formula_ast.specs.WellFormed.{IsFreeIn, IsWellFormed}
-use Rattle.formula_grammar.specs.declared.shape.Shape.{Shape}
-use Rattle.formula_grammar.specs.declared.shape.Shape.TheVariants.{Equation, Equations, Group, Question, Other}
+use Rattle.formula_ast.specs.WellFormed.{FormOver, IsFreeIn, IsWellFormed}
 use Rattle.formula_grammar.specs.Written as written
 use Rattle.formula_grammar.specs.Written.{Text, WrittenTerm, WrittenTerms, WrittenFormula, WrittenStatement, variable, named, further, no_terms, one_more}
 use Rattle.formula_grammar.specs.Checks.{is_among, index_of}
-use Rattle.formula_grammar.specs.Lawful.{has_bound, all_have_bound, is_bound, declared_by}
+use Rattle.formula_grammar.specs.Lawful.{has_bound, all_have_bound, is_bound, declared_by, symbol_entry}
 use Rattle.formula_grammar.specs.Meaning.{number_in, place_in, behind, IsTerm, AreTerms, Stands, Makes}
-use Rattle.formula_grammar.specs.Reading.{joined_shape, grouped_shape, asked_shape, shape_of, IsBuilt}
-use Rattle.equation_pairs.specs.Questions.{IsConjunction, IsQuantified, IsClosedConjunction}
+use Rattle.formula_grammar.specs.Reading.{IsBuilt}
 use Rattle.solver_cli.specs.Language.{File, Statement, ReadsAs}
-use Rattle.solver_cli.specs.Asked.{AsksEquations, HasEquations}
+use Rattle.solver_cli.specs.Asked.{IsClosed, AreClosed}
 
 -- ---- what stands in a term
 
@@ -82,23 +82,17 @@ number_among names (z ∷ xs) y e = among_more names xs z y (bytes_eq z y) refl 
 
 -- ---- behind a quantifier
 
-conjunction_quantified : (f : Form) → IsConjunction f → IsQuantified f
-conjunction_quantified (equal t s) c = tt
-conjunction_quantified (and f g) c = c
-conjunction_quantified f c = absurd c
-
-behind_quantified : (vs : List ℕ) (f : Form) → IsConjunction f → IsQuantified (behind exists vs f)
-behind_quantified [] f c = conjunction_quantified f c
-behind_quantified (v ∷ vs) f c = behind_quantified vs f c
-
-behind_free : (vs : List ℕ) (f : Form) (x : ℕ) → IsFreeIn x (behind exists vs f) → IsFreeIn x f × ¬ Contains vs x
-behind_free [] f x free = (free, λ (k, w, is). absurd (omega arith))
-behind_free (v ∷ vs) f x free =
-    let inner = behind_free vs f x free.1 in (inner.0, outside inner.1)
-  where
-    outside : ¬ Contains vs x → Contains (v ∷ vs) x → ⊥
-    outside n (zero, w, is) = free.0 (sym is)
-    outside n (suc k, w, is) = n (k, omega arith, is)
+module _ (quantifier : ℕ → Form → Form) (x : ℕ) (binds : (y : ℕ) (f : Form) → IsFreeIn x (quantifier y f) → (x ≢ y) × IsFreeIn x f) where
+  -- what is free behind quantifiers for these variables is free in the formula, and none of them
+  behind_free : (vs : List ℕ) (f : Form) → IsFreeIn x (behind quantifier vs f) → IsFreeIn x f × ¬ Contains vs x
+  behind_free [] f free = (free, λ (k, w, is). absurd (omega arith))
+  behind_free (v ∷ vs) f free =
+      let here = binds v (behind quantifier vs f) free in
+      let inner = behind_free vs f here.1 in (inner.0, outside here.0 inner.1)
+    where
+      outside : x ≢ v → ¬ Contains vs x → Contains (v ∷ vs) x → ⊥
+      outside other n (zero, w, is) = other (sym is)
+      outside other n (suc k, w, is) = n (k, omega arith, is)
 
 -- ---- what is written, where variables are bound
 
@@ -131,93 +125,130 @@ module _ (σ : Signature) (names : List Text) where
     occurs_in xs (one_more w ws) (t ∷ ts) are b (suc i) path x got =
         occurs_in xs ws ts are.1 (both_true (has_bound xs w) (all_have_bound xs ws) b).1 i path x got
 
-  -- a conjunction of equations whose variables are these
-  record IsGood (xs : List Text) (f : Form) : Type 0 where
-    conjunction : IsConjunction f
-    bound : (x : ℕ) → IsFreeIn x f → IsBound xs x
+  -- what is free behind quantifiers for these variables is one of the others
+  bound_behind : (quantifier : ℕ → Form → Form) (x : ℕ) → ((y : ℕ) (f : Form) → IsFreeIn x (quantifier y f) → (x ≢ y) × IsFreeIn x f)
+      → (xs ys : List Text) (f : Form) → (IsFreeIn x f → IsBound (xs ++ ys) x) → IsFreeIn x (behind quantifier (map (number_in names) ys) f) → IsBound xs x
+  bound_behind quantifier x binds xs ys f inner free =
+      let (inside, outside) = behind_free quantifier x binds (map (number_in names) ys) f free in
+      ⊎_elim (λ left. left) (λ right. absurd (outside right))
+      (Contains-append_cases (map (number_in names) xs) (map (number_in names) ys) x
+      (subst (λ l. Contains l x) (map-append (number_in names) xs ys) (inner inside)))
 
-  -- what a formula of each shape is, where these variables are bound
-  abbrev IsOf : List Text → Shape → Form → Type 0
-  IsOf xs Equation f = IsGood xs f
-  IsOf xs Equations f = IsGood xs f
-  IsOf xs Group f = IsGood xs f
-  IsOf xs Question f = xs ≡ [] → IsClosedConjunction f
-  IsOf xs Other f = Unit {0}
+  -- each free variable of a formula whose variables are bound is one of these
+  free_is_bound : (xs : List Text) (w : WrittenFormula) (f : Form) → Stands σ names w f → is_bound xs w ≡ true → (x : ℕ) → IsFreeIn x f → IsBound xs x
+  free_is_bound xs written.truth f e b x free = absurd (subst (λ g. IsFreeIn x g) e free)
+  free_is_bound xs written.falsity f e b x free = absurd (subst (λ g. IsFreeIn x g) e free)
+  free_is_bound xs (written.finite w) f (t, e, is) b x free =
+      let (path, got) = subst (λ g. IsFreeIn x g) e free in occurs xs w t is b path x got
+  free_is_bound xs (written.win p n w) f (t, e, is) b x free =
+      let (path, got) = subst (λ g. IsFreeIn x g) e free in occurs xs w t is b path x got
+  free_is_bound xs (written.equal v w) f (t, u, e, left, right) b x free = elim (subst (λ g. IsFreeIn x g) e free) [
+    | inl (path, got) ↦ occurs xs v t left (both_true (has_bound xs v) (has_bound xs w) b).0 path x got
+    | inr (path, got) ↦ occurs xs w u right (both_true (has_bound xs v) (has_bound xs w) b).1 path x got
+  ]
+  free_is_bound xs (written.differ v w) f (t, u, e, left, right) b x free = elim (subst (λ g. IsFreeIn x g) e free) [
+    | inl (path, got) ↦ occurs xs v t left (both_true (has_bound xs v) (has_bound xs w) b).0 path x got
+    | inr (path, got) ↦ occurs xs w u right (both_true (has_bound xs v) (has_bound xs w) b).1 path x got
+  ]
+  free_is_bound xs (written.call p ws) f (ts, e, are) b x free =
+      let (i, t, at, path, got) = subst (λ g. IsFreeIn x g) e free in
+      occurs_in xs ws ts are b i path x (ap (λ o. option_and_then {T = Term} {U = Term} (λ r. subterm r path) o) at ∙ got)
+  free_is_bound xs (written.no w) f (g, e, is) b x free = free_is_bound xs w g is b x (subst (λ h. IsFreeIn x h) e free)
+  free_is_bound xs (written.group w) f is b x free = free_is_bound xs w f is b x free
+  free_is_bound xs (written.exists ys w) f (g, e, is) b x free =
+      bound_behind form.exists x (λ y h here. here) xs ys g (free_is_bound (xs ++ ys) w g is b x) (subst (λ h. IsFreeIn x h) e free)
+  free_is_bound xs (written.forall ys w) f (g, e, is) b x free =
+      bound_behind form.forall x (λ y h here. here) xs ys g (free_is_bound (xs ++ ys) w g is b x) (subst (λ h. IsFreeIn x h) e free)
+  free_is_bound xs (written.and v w) f (g, h, e, left, right) b x free = elim (subst (λ k. IsFreeIn x k) e free) [
+    | inl o ↦ free_is_bound xs v g left (both_true (is_bound xs v) (is_bound xs w) b).0 x o
+    | inr o ↦ free_is_bound xs w h right (both_true (is_bound xs v) (is_bound xs w) b).1 x o
+  ]
+  free_is_bound xs (written.or v w) f (g, h, e, left, right) b x free = elim (subst (λ k. IsFreeIn x k) e free) [
+    | inl o ↦ free_is_bound xs v g left (both_true (is_bound xs v) (is_bound xs w) b).0 x o
+    | inr o ↦ free_is_bound xs w h right (both_true (is_bound xs v) (is_bound xs w) b).1 x o
+  ]
+  free_is_bound xs (written.imp v w) f (g, h, e, left, right) b x free = elim (subst (λ k. IsFreeIn x k) e free) [
+    | inl o ↦ free_is_bound xs v g left (both_true (is_bound xs v) (is_bound xs w) b).0 x o
+    | inr o ↦ free_is_bound xs w h right (both_true (is_bound xs v) (is_bound xs w) b).1 x o
+  ]
+  free_is_bound xs (written.iff v w) f (g, h, e, left, right) b x free = elim (subst (λ k. IsFreeIn x k) e free) [
+    | inl o ↦ free_is_bound xs v g left (both_true (is_bound xs v) (is_bound xs w) b).0 x o
+    | inr o ↦ free_is_bound xs w h right (both_true (is_bound xs v) (is_bound xs w) b).1 x o
+  ]
 
-  equated : (xs : List Text) (v w : WrittenTerm) (t u : Term) → IsTerm σ names v t → IsTerm σ names w u → is_bound xs (written.equal v w) ≡ true
-      → IsGood xs (equal t u)
-  equated xs v w t u left right b = record {
-    conjunction = tt;
-    bound = λ x free. elim free [
-      | inl (path, got) ↦ occurs xs v t left (both_true (has_bound xs v) (has_bound xs w) b).0 path x got
-      | inr (path, got) ↦ occurs xs w u right (both_true (has_bound xs v) (has_bound xs w) b).1 path x got
-    ];
-  }
-
-  both_good : (xs : List Text) (f g : Form) → IsGood xs f → IsGood xs g → IsGood xs (and f g)
-  both_good xs f g first other = record {
-    conjunction = (first.conjunction, other.conjunction);
-    bound = λ x free. elim free [ inl o ↦ first.bound x o | inr o ↦ other.bound x o ];
-  }
-
-  joined : (xs : List Text) (s r : Shape) (f g : Form) → IsOf xs s f → IsOf xs r g → IsOf xs (joined_shape s r) (and f g)
-  joined xs Equation Equation f g first other = both_good xs f g first other
-  joined xs Equations Equation f g first other = both_good xs f g first other
-  joined xs s r f g first other = tt
-
-  grouped : (xs : List Text) (s : Shape) (f : Form) → IsOf xs s f → IsOf xs (grouped_shape s) f
-  grouped xs Equation f is = is
-  grouped xs Equations f is = is
-  grouped xs s f is = tt
-
-  closed : (xs ys : List Text) (f : Form) → IsGood (xs ++ ys) f → xs ≡ [] → IsClosedConjunction (behind exists (map (number_in names) ys) f)
-  closed xs ys f good none =
-      let vs : List ℕ = map (number_in names) ys in
-      let here : IsGood ys f = subst (λ (zs : List Text). IsGood (zs ++ ys) f) none good in record {
-        shape = behind_quantified vs f here.conjunction;
-        closed = λ x free. let (inside, outside) = behind_free vs f x free in outside (here.bound x inside);
-      }
-
-  asked_of : (xs ys : List Text) (s : Shape) (f : Form) → IsOf (xs ++ ys) s f → IsOf xs (asked_shape s) (behind exists (map (number_in names) ys) f)
-  asked_of xs ys Equation f is = closed xs ys f is
-  asked_of xs ys Group f is = closed xs ys f is
-  asked_of xs ys s f is = tt
-
-  is_of : (xs : List Text) (w : WrittenFormula) (f : Form) → Stands σ names w f → is_bound xs w ≡ true → IsOf xs (shape_of w) f
-  is_of xs (written.equal v w) f (t, u, e, left, right) b = subst (λ (g : Form). IsGood xs g) (sym e) (equated xs v w t u left right b)
-  is_of xs (written.and v w) f (g, h, e, left, right) b =
-      let bounds = both_true (is_bound xs v) (is_bound xs w) b in
-      subst (λ (k : Form). IsOf xs (joined_shape (shape_of v) (shape_of w)) k) (sym e)
-      (joined xs (shape_of v) (shape_of w) g h (is_of xs v g left bounds.0) (is_of xs w h right bounds.1))
-  is_of xs (written.group w) f is b = grouped xs (shape_of w) f (is_of xs w f is b)
-  is_of xs (written.exists ys w) f (g, e, is) b =
-      subst (λ (k : Form). IsOf xs (asked_shape (shape_of w)) k) (sym e) (asked_of xs ys (shape_of w) g (is_of (xs ++ ys) w g is b))
-  is_of xs w f is b = tt
+  none_free : (w : WrittenFormula) (f : Form) → Stands σ names w f → is_bound [] w ≡ true → (x : ℕ) → ¬ IsFreeIn x f
+  none_free w f is b x free = let (k, inside, e) = free_is_bound [] w f is b x free in absurd (omega arith)
 
 -- ---- the statements of a file
 
-abbrev IsClosed : Statement → Type 0
-IsClosed s = IsClosedConjunction (form_of s.body)
+abbrev HasNoFree : Statement → Type 0
+HasNoFree s = (x : ℕ) → ¬ IsFreeIn x (form_of s.body)
 
-all_closed : (file : File) (σ : Signature) (preds : List Pred) (solves : List Statement) (statements : List WrittenStatement)
-    → Makes file σ preds solves statements → All IsBuilt statements → All IsClosed solves → All IsClosed file.solves
-all_closed file σ preds solves [] makes built closed = subst (λ (l : List Statement). All IsClosed l) (sym makes.2) closed
-all_closed file σ preds solves (written.symbols ds ∷ more) makes built closed =
-    all_closed file (declared_by σ (written.symbols ds)) preds solves more makes (All-tail IsBuilt (written.symbols ds) more built) closed
-all_closed file σ preds solves (written.predicate p xs w ∷ more) makes built closed = absurd (All-head IsBuilt (written.predicate p xs w) more built)
-all_closed file σ preds solves (written.solve w ∷ more) (s, is, makes) built closed =
-    let (asks, bound) = All-head IsBuilt (written.solve w) more built in
-    let here : IsClosed s = subst (λ shape. IsOf σ s.names [] shape (form_of s.body)) asks (is_of σ s.names [] w (form_of s.body) is.body bound) refl in
-    all_closed file σ preds (solves ++ s ∷ []) more makes (All-tail IsBuilt (written.solve w) more built) (All-push IsClosed solves s closed here)
+abbrev IsSymbol : Entry → Type 0
+IsSymbol entry = entry.kind ≡ kind.Symbol
 
-pub has_equations : (bytes : List ℕ) (file : File) → ReadsAs bytes file → IsWellFormed file → HasEquations file
-has_equations bytes file reads well_formed i d is = record {
-  shape = all_closed file [] [] [] reads.statements reads.makes reads.built (All-nil IsClosed) i d is;
-  over = well_formed.solves i d is;
+-- no statement has a free variable, and no predicate is declared
+record IsAnswered (σ : Signature) (solves : List Statement) : Type 0 where
+  closed : All HasNoFree solves
+  symbols : All IsSymbol σ
+
+all_answered : (file : File) (σ : Signature) (preds : List Pred) (solves : List Statement) (statements : List WrittenStatement)
+    → Makes file σ preds solves statements → All IsBuilt statements → IsAnswered σ solves → IsAnswered file.signature file.solves
+all_answered file σ preds solves [] makes built so_far = record {
+  closed = subst (λ (l : List Statement). All HasNoFree l) (sym makes.2) so_far.closed;
+  symbols = subst (λ (l : Signature). All IsSymbol l) (sym makes.0) so_far.symbols;
 }
+all_answered file σ preds solves (written.symbols ds ∷ more) makes built so_far =
+    all_answered file (declared_by σ (written.symbols ds)) preds solves more makes (All-tail IsBuilt (written.symbols ds) more built) (record {
+      closed = so_far.closed;
+      symbols = All-append IsSymbol σ (map symbol_entry ds) so_far.symbols (All-map IsSymbol symbol_entry ds (λ k d is. refl));
+    })
+all_answered file σ preds solves (written.predicate p xs w ∷ more) makes built so_far = absurd (All-head IsBuilt (written.predicate p xs w) more built)
+all_answered file σ preds solves (written.solve w ∷ more) (s, is, makes) built so_far =
+    let bound = All-head IsBuilt (written.solve w) more built in
+    let here : HasNoFree s = none_free σ s.names w (form_of s.body) is.body bound in
+    all_answered file σ preds (solves ++ s ∷ []) more makes (All-tail IsBuilt (written.solve w) more built) (record {
+      closed = All-push HasNoFree solves s so_far.closed here;
+      symbols = so_far.symbols;
+    })
+
+-- where no predicate is declared, none is called
+not_declared : (σ : Signature) → All IsSymbol σ → (p n : ℕ) → declared_at σ p ≡ Some (kind.Pred, n) → ⊥
+not_declared [] symbols p n e = cc
+not_declared (entry ∷ σ) symbols zero n e = let is = All-head IsSymbol entry σ symbols in cc
+not_declared (entry ∷ σ) symbols (suc p) n e = not_declared σ (All-tail IsSymbol entry σ symbols) p n e
+
+none_called : (σ : Signature) (n : ℕ) → All IsSymbol σ → (f : Form) → FormOver σ σ n f → FormOver σ [] n f
+none_called σ n symbols form.always over = tt
+none_called σ n symbols form.never over = tt
+none_called σ n symbols (form.equal t s) over = over
+none_called σ n symbols (form.differ t s) over = over
+none_called σ n symbols (form.finite t) over = over
+none_called σ n symbols (form.call p ts) over = absurd (not_declared σ symbols p (length ts) over.0)
+none_called σ n symbols (form.win p k t) over = absurd (not_declared σ symbols p 2 over.0)
+none_called σ n symbols (form.no f) over = none_called σ n symbols f over
+none_called σ n symbols (form.and f g) over = (none_called σ n symbols f over.0, none_called σ n symbols g over.1)
+none_called σ n symbols (form.or f g) over = (none_called σ n symbols f over.0, none_called σ n symbols g over.1)
+none_called σ n symbols (form.imp f g) over = (none_called σ n symbols f over.0, none_called σ n symbols g over.1)
+none_called σ n symbols (form.iff f g) over = (none_called σ n symbols f over.0, none_called σ n symbols g over.1)
+none_called σ n symbols (form.exists x f) over = (over.0, none_called σ n symbols f over.1)
+none_called σ n symbols (form.forall x f) over = (over.0, none_called σ n symbols f over.1)
+
+pub are_closed : (bytes : List ℕ) (file : File) → ReadsAs bytes file → IsWellFormed file → AreClosed file
+are_closed bytes file reads well_formed i d is =
+    let answered = all_answered file [] [] [] reads.statements reads.makes reads.built (record { closed = All-nil HasNoFree; symbols = All-nil IsSymbol }) in
+    let s = well_formed.solves i d is in
+    record {
+      over = record {
+        words = s.words;
+        distinct = s.distinct;
+        formula = none_called file.signature _ answered.symbols _ s.formula;
+      };
+      closed = answered.closed i d is;
+    }
 
 -- the statement with this number, counted from 1
-pub asked : (file : File) (number : ℕ) (s : Statement) → HasEquations file → 1 ≤ number → number ≤ length file.solves → slice_get file.solves (number - 1) ≡ Some s
-    → AsksEquations file s
-asked file number s has first within is =
-    subst (λ (x : Statement). AsksEquations file x) (get_or_from_slice_get file.solves (number - 1) s s is) (has (number - 1) s (omega (arith, first, within)))
+pub asked : (file : File) (number : ℕ) (s : Statement) → AreClosed file → 1 ≤ number → number ≤ length file.solves → slice_get file.solves (number - 1) ≡ Some s
+    → IsClosed file s
+asked file number s closed first within is =
+    subst (λ (x : Statement). IsClosed file x) (get_or_from_slice_get file.solves (number - 1) s s is) (closed (number - 1) s (omega (arith, first, within)))

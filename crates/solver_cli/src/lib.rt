@@ -9,8 +9,10 @@ mod running;
 mod status;
 #[cfg(test)]
 mod tests;
+mod wording;
 mod writing;
 
+pub use deciding::{Answer, decide};
 pub use reporting::report;
 pub use running::run;
 pub use status::Status;

@@ -1,4 +1,5 @@
 // Runs over memory.
+mod closed;
 mod faults;
 mod fronts;
 mod limits;
@@ -76,73 +77,77 @@ fn a_statement_is_answered(rt: HostRuntime) -> Result<(), Fail> {
     )
 }
 
-// What a run on a file of a text does: the text, the status, and what out and err took.
-type Case = (&'static str, Status, &'static str, &'static str);
+// What comes of a file: answers with semicolons between, or the line of a fault.
+fn expect_outcome(
+    rt: &impl Abort,
+    alloc: Global,
+    file: &[u8],
+    wanted: &str,
+    shows: &str,
+) -> Result<(), Fail> {
+    let mut source = source_of(alloc, file)?;
+    let lines = lines_of(alloc, wanted)?;
+    let line = lines.as_bytes();
+    if wanted.starts_with("fault") {
+        expect_ample(rt, alloc, &mut source, Status::Refused, b"", line, shows)
+    } else {
+        expect_ample(rt, alloc, &mut source, Status::Done, line, b"", shows)
+    }
+}
 
-fn expect_cases(rt: &impl Abort, alloc: Global, cases: &[Case]) -> Result<(), Fail> {
-    for &(text, status, written, line) in cases {
-        let mut source = source_of(alloc, text.as_bytes())?;
-        expect_ample(
-            rt,
-            alloc,
-            &mut source,
-            status,
-            written.as_bytes(),
-            line.as_bytes(),
-            text,
-        )?;
+// The parts between semicolons, each as a line.
+fn lines_of(alloc: Global, parts: &str) -> Result<String, Fail> {
+    let mut lines = String::new(alloc);
+    if parts.is_empty() {
+        return Ok(lines);
+    }
+    for part in parts.split("; ") {
+        lines.push_str(part)?;
+        lines.push_str("\n")?;
+    }
+    Ok(lines)
+}
+
+// The bytes of a text in which `^` stands for a line feed.
+fn bytes_of(alloc: Global, text: &str) -> Result<Vec<u8>, Fail> {
+    let mut bytes = Vec::new(alloc);
+    for &byte in text.as_bytes() {
+        bytes.push(if byte == b'^' { b'\n' } else { byte })?;
+    }
+    Ok(bytes)
+}
+
+// What comes of files, a row for each: the outcome, `<<`, and the file's text.
+fn expect_rows(rt: &impl Abort, alloc: Global, table: &str) -> Result<(), Fail> {
+    for row in table.lines() {
+        if row.starts_with("//") {
+            continue;
+        }
+        let (wanted, text) = row.split_once("<< ").ok_or("a row has two parts")?;
+        let file = bytes_of(alloc, text)?;
+        expect_outcome(rt, alloc, &file, wanted.trim_end(), text)?;
     }
     Ok(())
 }
 
+const QUESTIONS: &str = "\
+1 false << symbol f/1, a/0. solve exists X: f(X) = a.
+1 true << symbol f/2, a/0. solve exists X Y: (X = f(X, Y) & f(X, a) = X).
+1 false << symbol f/1, a/0, b/0. solve exists X Y: (f(X) = f(Y) & X = a & Y = b).
+1 false << symbol f/1, a/0. solve exists X Y: (X = f(Y) & Y = f(X) & f(a) = X).
+1 true; 2 true << symbol f/1. solve exists X: X = f(X). solve exists X: X = X.
+1 false << symbol f/1. solve exists X: (X = f(X) & finite(X)).
+1 true << symbol f/1. solve forall X Y: (X = f(X) & Y = f(Y) -> X = Y).
+1 true << symbol f/1. solve forall X: (X = f(f(X)) -> X = f(X)).
+1 false << symbol a/0. solve forall X: X = a.
+1 true << symbol a/0, b/0. solve exists X: (X = a & exists X: X = b).
+1 false << solve exists X: $0 = $0(X).
+1 true; 2 true << solve exists X: X = $7(X). solve exists X Y: $1(X) = $1(Y).
+1 true; 2 true; 3 false << solve exists X: X = $0. symbol f/1. solve exists X: X = f(X). symbol a/0. solve exists X: f(X) = a.";
+
 #[test]
 fn questions_are_answered(rt: HostRuntime) -> Result<(), Fail> {
-    let cases: &[Case] = &[
-        (
-            "symbol f/1, a/0. solve exists X: f(X) = a.",
-            Status::Done,
-            "1 false\n",
-            "",
-        ),
-        (
-            "symbol f/2, a/0. solve exists X Y: (X = f(X, Y) & f(X, a) = X).",
-            Status::Done,
-            "1 true\n",
-            "",
-        ),
-        (
-            "symbol f/1, a/0, b/0. solve exists X Y: (f(X) = f(Y) & X = a & Y = b).",
-            Status::Done,
-            "1 false\n",
-            "",
-        ),
-        (
-            "symbol f/1, a/0. solve exists X Y: (X = f(Y) & Y = f(X) & f(a) = X).",
-            Status::Done,
-            "1 false\n",
-            "",
-        ),
-        (
-            "symbol f/1. solve exists X: X = f(X). solve exists X: X = X.",
-            Status::Done,
-            "1 true\n2 true\n",
-            "",
-        ),
-        ("solve exists X: $0 = $0(X).", Status::Done, "1 false\n", ""),
-        (
-            "solve exists X: X = $7(X). solve exists X Y: $1(X) = $1(Y).",
-            Status::Done,
-            "1 true\n2 true\n",
-            "",
-        ),
-        (
-            "solve exists X: X = $0. symbol f/1. solve exists X: X = f(X). symbol a/0. solve exists X: f(X) = a.",
-            Status::Done,
-            "1 true\n2 true\n3 false\n",
-            "",
-        ),
-    ];
-    expect_cases(&rt, rt.alloc(), cases)
+    expect_rows(&rt, rt.alloc(), QUESTIONS)
 }
 
 #[test]

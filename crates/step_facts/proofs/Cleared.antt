@@ -11,7 +11,7 @@ use Rattle.flat_form.specs.declared.cube.Part.{Part}
 use Rattle.flat_form.specs.declared.cube.Cube.{Cube}
 use Rattle.flat_form.specs.Fitting.{BasicFits}
 use Rattle.flat_form.specs.Numbering.{BasicOver, PartOver}
-use Rattle.flat_form.specs.Parts.{renumbered, IsPartOver}
+use Rattle.flat_form.specs.Parts.{variables_of, renumbered, IsPartOver}
 use Rattle.flat_form.specs.Solved.{variable_of, IsSolved}
 use Rattle.flat_form.specs.Orders.{new_number, renumbered_part}
 use Rattle.flat_form.specs.Steps.{Settles, Mentions, WithoutIdle, NumbersInner, Finishes, IsCleared}
@@ -22,8 +22,8 @@ use Rattle.cube_facts.specs.Settling.{HasSettledShape}
 use Rattle.cube_facts.proofs.Places.{side}
 use Rattle.cube_facts.proofs.Settle.{settled_parts_shape, something_is_left, some_atom}
 use Rattle.cube_facts.proofs.Shape.{shape_renumbered}
-use Rattle.cube_facts.proofs.NewNumbers.{number_is_back, front_number, beyond_number, free_number}
-use Rattle.cube_facts.proofs.Renumberings.{map_over, renumbering_over, solved_new}
+use Rattle.step_facts.proofs.NewNumbers.{number_is_back, free_number, front_number, beyond_number}
+use Rattle.step_facts.proofs.Renumberings.{map_over, renumbering_over, solved_new}
 use Rattle.step_facts.specs.Grouped.{IsGroupedCube}
 
 -- what is busy was there before, and mentions no idle variable
@@ -97,8 +97,13 @@ left_some σ m base solved over base_fits old new (Settles.settled p it rest kep
       | inr later ↦ left_some σ m base solved over base_fits rest kept more (λ q j. each q (contains_later p q rest j)) part later
     ]
 
-module _ (mid : Cube) (idle : List ℕ) (first : List Part) (cube : Cube) (before : IsGroupedCube mid idle)
-    (settled : (part : Part) → Contains first part → HasSettledShape (mid.free + mid.outer) mid.basic part) (c : IsCleared mid idle first cube) where
+-- a variable of an atom that is not idle is not idle
+pub not_idle : (mid : Cube) (idle : List ℕ) → IsGroupedCube mid idle → (a : Flat) → Contains mid.basic a → ¬ Contains idle (variable_of a)
+    → (v : ℕ) → Contains (variables_of a) v → ¬ Contains idle v
+not_idle mid idle before a i none v o = λ k.
+    none (subst (λ (z : Flat). Contains idle (variable_of z)) (sym (before.alone v k a i o)) k)
+
+module _ (mid : Cube) (idle : List ℕ) (first : List Part) (cube : Cube) (before : IsGroupedCube mid idle) (c : IsCleared mid idle first cube) where
   abbrev scope : ℕ
   scope = mid.free + mid.outer
 
@@ -114,82 +119,83 @@ module _ (mid : Cube) (idle : List ℕ) (first : List Part) (cube : Cube) (befor
   covers : (v : ℕ) → mid.free ≤ v → v < mid.free + mid.outer → ¬ Contains idle v → Contains c.order v
   covers v a b out = (c.order_is v).1 ((a, b), out)
 
-  back : (v : ℕ) → old (number v) ≡ v
-  back v = number_is_back mid.free scope c.order idle (omega arith) covers v
+  pub last_back : (v : ℕ) → old (number v) ≡ v
+  last_back v = number_is_back mid.free scope c.order idle (omega arith) covers v
+
+  pub last_fixed : (v : ℕ) → v < mid.free → (number v ≡ v) × (old v ≡ v)
+  last_fixed v low = free_number mid.free scope c.order idle (omega arith) covers v low
 
   bound_is : bound ≡ mid.free + length c.order
   bound_is = omega (arith, c.free_is, c.outer_is)
 
-  number_low : (v : ℕ) → v < scope → ¬ Contains idle v → number v < bound
-  number_low v low out = let w = front_number mid.free scope c.order idle (omega arith) covers v low out in omega (arith, w, bound_is)
+  pub last_low : (v : ℕ) → v < scope → ¬ Contains idle v → number v < bound
+  last_low v low out = let w = front_number mid.free scope c.order idle (omega arith) covers v low out in omega (arith, w, bound_is)
 
-  number_high : (v : ℕ) → scope ≤ v → number v ≡ bound + length idle + (v - scope)
-  number_high v high = let e = beyond_number mid.free scope c.order idle (omega arith) covers v high in omega (arith, e, bound_is)
+  pub last_high : (v : ℕ) → scope ≤ v → number v ≡ bound + length idle + (v - scope)
+  last_high v high = let e = beyond_number mid.free scope c.order idle (omega arith) covers v high in omega (arith, e, bound_is)
 
   pub end_over : BasicOver bound cube.basic
   end_over = renumbering_over number (λ atom. ¬ Contains idle (variable_of atom)) mid.basic cube.basic c.basic_is scope bound before.over.basic
-      (λ a i busy v o. number_low v (over_below scope mid.basic before.over.basic a i v o) (before.apart a i busy v o))
+      (λ a i busy v o. last_low v (over_below scope mid.basic before.over.basic a i v o) (not_idle mid idle before a i busy v o))
 
   pub end_solved : IsSolved cube.basic
-  end_solved = solved_new number (λ atom. ¬ Contains idle (variable_of atom)) mid.basic cube.basic c.basic_is (λ v. old v) back before.solved
-      (λ u h i busy. let low = before.low u h i in (
-        free_number mid.free scope c.order idle (omega arith) covers u low.0,
-        free_number mid.free scope c.order idle (omega arith) covers h low.1,
-      ))
+  end_solved = solved_new number (λ atom. ¬ Contains idle (variable_of atom)) mid.basic cube.basic c.basic_is (λ v. old v) last_back before.solved
+      (λ u h i busy. let low = before.low u h i in ((last_fixed u low.0).0, (last_fixed h low.1).0))
 
-  module _ (part : Part) (inside : Contains c.busy part) where
-    was : Contains first part × ((v : ℕ) → Contains idle v → ¬ Mentions part v)
-    was = busy_parts idle first c.busy c.busy_is part inside
+  module _ (settled : (part : Part) → Contains first part → HasSettledShape (mid.free + mid.outer) mid.basic part) where
+    module _ (part : Part) (inside : Contains c.busy part) where
+      was : Contains first part × ((v : ℕ) → Contains idle v → ¬ Mentions part v)
+      was = busy_parts idle first c.busy c.busy_is part inside
 
-    not_idle : (v : ℕ) → Mentions part v → ¬ Contains idle v
-    not_idle v there = λ i. was.1 v i there
+      unmentioned : (v : ℕ) → Mentions part v → ¬ Contains idle v
+      unmentioned v there = λ i. was.1 v i there
 
-    pub busy_over : PartOver bound (renumbered_part number (length idle) part)
-    busy_over = map_over number (scope + part.inner) (bound + (length idle + part.inner)) part.basic (settled part was.0).over (λ a i v o.
-        let low : v < scope + part.inner = over_below (scope + part.inner) part.basic (settled part was.0).over a i v o in
-        elim (side v scope) [
-          | inl l ↦ let w = number_low v l (not_idle v (a, i, o)) in omega (arith, w)
-          | inr le ↦ let e = number_high v le in omega (arith, e, low)
-        ])
+      pub busy_over : PartOver bound (renumbered_part number (length idle) part)
+      busy_over = map_over number (scope + part.inner) (bound + (length idle + part.inner)) part.basic (settled part was.0).over (λ a i v o.
+          let low : v < scope + part.inner = over_below (scope + part.inner) part.basic (settled part was.0).over a i v o in
+          elim (side v scope) [
+            | inl l ↦ let w = last_low v l (unmentioned v (a, i, o)) in omega (arith, w)
+            | inr le ↦ let e = last_high v le in omega (arith, e, low)
+          ])
 
-    pub busy_shape : IsPartOver bound cube.basic (map (renumbered number) part.basic)
-    busy_shape = shape_renumbered scope bound number old mid.basic part.basic cube.basic (map (renumbered number) part.basic) (λ v there. back v)
-        (λ v there. record {
-          back = back v;
-          low = λ l. number_low v l (not_idle v there);
-          high = λ le. let e = number_high v le in omega (arith, e);
-        })
-        (λ a i. let (b, stands, out, e) = (c.basic_is.is a).0 i in (b, stands, e))
-        (λ a. (
-          λ i. let (b, stands, same) = contains_image (renumbered number) part.basic a i in (b, stands, sym same),
-          λ from. let (b, stands, e) = from in
-              subst (λ (z : Flat). Contains (map (renumbered number) part.basic) z) (sym e) (contains_map (renumbered number) part.basic b stands),
-        ))
-        (settled part was.0).shape
+      pub busy_shape : IsPartOver bound cube.basic (map (renumbered number) part.basic)
+      busy_shape = shape_renumbered scope bound number old mid.basic part.basic cube.basic (map (renumbered number) part.basic) (λ v there. last_back v)
+          (λ v there. record {
+            back = last_back v;
+            low = λ l. last_low v l (unmentioned v there);
+            high = λ le. let e = last_high v le in omega (arith, e);
+          })
+          (λ a i. let (b, stands, out, e) = (c.basic_is.is a).0 i in (b, stands, e))
+          (λ a. (
+            λ i. let (b, stands, same) = contains_image (renumbered number) part.basic a i in (b, stands, sym same),
+            λ from. let (b, stands, e) = from in
+                subst (λ (z : Flat). Contains (map (renumbered number) part.basic) z) (sym e) (contains_map (renumbered number) part.basic b stands),
+          ))
+          (settled part was.0).shape
 
-    pub busy_some : ((p : Part) → Contains first p → ¬ (p.basic ≡ [])) → ¬ (map (renumbered number) part.basic ≡ [])
-    busy_some some = λ empty.
-        let (a, i) = some_atom part.basic (some part was.0) in
-        let nowhere : Contains [] (renumbered number a) =
-        subst (λ (xs : List Flat). Contains xs (renumbered number a)) empty (contains_map (renumbered number) part.basic a i) in
-        omega (arith, nowhere.1)
+      pub busy_some : ((p : Part) → Contains first p → ¬ (p.basic ≡ [])) → ¬ (map (renumbered number) part.basic ≡ [])
+      busy_some some = λ empty.
+          let (a, i) = some_atom part.basic (some part was.0) in
+          let nowhere : Contains [] (renumbered number a) =
+          subst (λ (xs : List Flat). Contains xs (renumbered number a)) empty (contains_map (renumbered number) part.basic a i) in
+          omega (arith, nowhere.1)
 
-  pub second_shape : (part : Part) → Contains c.second part → HasSettledShape bound cube.basic part
-  second_shape part i = All-contains (HasSettledShape bound cube.basic) c.second part
-      (settled_parts_shape bound cube.basic (map (renumbered_part number (length idle)) c.busy) c.second end_solved end_over
-      (each_of (PartOver bound) (map (renumbered_part number (length idle)) c.busy) (λ p j.
-      let (was_part, stands, same) = contains_image (renumbered_part number (length idle)) c.busy p j in
-      subst (λ (z : Part). PartOver bound z) same (busy_over was_part stands)))
-      c.second_is) i
+    pub second_shape : (part : Part) → Contains c.second part → HasSettledShape bound cube.basic part
+    second_shape part i = All-contains (HasSettledShape bound cube.basic) c.second part
+        (settled_parts_shape bound cube.basic (map (renumbered_part number (length idle)) c.busy) c.second end_solved end_over
+        (each_of (PartOver bound) (map (renumbered_part number (length idle)) c.busy) (λ p j.
+        let (was_part, stands, same) = contains_image (renumbered_part number (length idle)) c.busy p j in
+        subst (λ (z : Part). PartOver bound z) same (busy_over was_part stands)))
+        c.second_is) i
 
-  pub second_some : (σ : Signature) → BasicFits σ cube.basic
-      → ((part : Part) → Contains (map (renumbered_part number (length idle)) c.busy) part → BasicFits σ part.basic)
-      → ((p : Part) → Contains first p → ¬ (p.basic ≡ [])) → (part : Part) → Contains c.second part → ¬ (part.basic ≡ [])
-  second_some σ base_fits fits some part i =
-      left_some σ bound cube.basic end_solved end_over base_fits (map (renumbered_part number (length idle)) c.busy) c.second c.second_is (λ p j.
-      let (was_part, stands, same) = contains_image (renumbered_part number (length idle)) c.busy p j in
-      record {
-        fits = fits p j;
-        shape = subst (λ (z : Part). IsPartOver bound cube.basic z.basic) same (busy_shape was_part stands);
-        some = subst (λ (z : Part). ¬ (z.basic ≡ [])) same (busy_some was_part stands some);
-      }) part i
+    pub second_some : (σ : Signature) → BasicFits σ cube.basic
+        → ((part : Part) → Contains (map (renumbered_part number (length idle)) c.busy) part → BasicFits σ part.basic)
+        → ((p : Part) → Contains first p → ¬ (p.basic ≡ [])) → (part : Part) → Contains c.second part → ¬ (part.basic ≡ [])
+    second_some σ base_fits fits some part i =
+        left_some σ bound cube.basic end_solved end_over base_fits (map (renumbered_part number (length idle)) c.busy) c.second c.second_is (λ p j.
+        let (was_part, stands, same) = contains_image (renumbered_part number (length idle)) c.busy p j in
+        record {
+          fits = fits p j;
+          shape = subst (λ (z : Part). IsPartOver bound cube.basic z.basic) same (busy_shape was_part stands);
+          some = subst (λ (z : Part). ¬ (z.basic ≡ [])) same (busy_some was_part stands some);
+        }) part i

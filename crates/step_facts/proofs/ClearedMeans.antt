@@ -1,37 +1,35 @@
 -- A cleared cube holds where the grouped cube does with its settled parts.
 use Rattle.std.specs.Prelude.{Contains, ◌↔◌}
-use Rattle.std.proofs.Common.{ℕ, ◌≡◌, ◌+◌, ◌<◌, ◌≤◌, List, [], ◌∷◌, ◌++◌, map, length, refl, sym, ap, ◌∙◌, subst, arith, inl, inr, ◌⊎◌}
+use Rattle.std.proofs.Common.{ℕ, ◌+◌, List, [], ◌∷◌, ◌++◌, map, length, refl, sym, subst, arith, inl, inr}
 use Rattle.tree_model.specs.Signatures.{Signature, IsRoot}
 use Rattle.tree_model.specs.Valuations.{Valuation}
 use Rattle.tree_facts.proofs.Members.{contains_first, contains_later, contains_cases}
-use Rattle.tree_facts.proofs.Renumbering.{contains_image}
 use Rattle.flat_form.specs.declared.atom.Flat.{Flat}
-use Rattle.flat_form.specs.declared.atom.Flat.TheVariants.{VarVar, Finite}
 use Rattle.flat_form.specs.declared.cube.Part.{Part}
 use Rattle.flat_form.specs.declared.cube.Cube.{Cube}
 use Rattle.flat_form.specs.Fitting.{BasicFits, CubeFits}
 use Rattle.flat_form.specs.Meanings.{CubeHolds}
-use Rattle.flat_form.specs.Numbering.{BasicOver, IsWellNumbered}
-use Rattle.flat_form.specs.Parts.{variables_of, AllBelow, IsPartOver}
+use Rattle.flat_form.specs.Numbering.{IsWellNumbered}
+use Rattle.flat_form.specs.Parts.{AllBelow, IsPartOver}
 use Rattle.flat_form.specs.Solved.{variable_of, IsSolved}
 use Rattle.flat_form.specs.Orders.{new_number, renumbered_part}
-use Rattle.flat_form.specs.Steps.{IsGrouped, Settles, Mentions, WithoutIdle, IsCleared}
+use Rattle.flat_form.specs.Steps.{IsGrouped, Settles, IsCleared}
 use Rattle.flat_form.proofs.Symbols.{each_of, Fit, PartsFit, fits, cube_fit}
+use Rattle.flat_facts.proofs.Follows.{over_below}
 use Rattle.cube_facts.specs.Numbers.{old_number}
 use Rattle.cube_facts.specs.Renumbered.{StandsInCube, in_basic, in_part, IsRenumberedCube}
 use Rattle.cube_facts.proofs.Fits.{renumbering_fits, moved_parts_fit}
-use Rattle.cube_facts.proofs.Places.{side}
-use Rattle.cube_facts.proofs.FreshValues.{stands_tells}
+use Rattle.cube_facts.proofs.Variables.{stands_tells}
 use Rattle.cube_facts.proofs.Idle.{idle_may_go}
 use Rattle.cube_facts.proofs.Settle.{settles_there, settles_back, settles_over}
 use Rattle.cube_facts.proofs.PartsMove.{bases_of_renumbered}
 use Rattle.cube_facts.proofs.RenumberedCubes.{renumbered_means}
-use Rattle.cube_facts.proofs.Renumberings.{list_renumbered, solved_kept}
-use Rattle.cube_facts.proofs.NewNumbers.{new_back, new_fixed, new_front, new_high}
-use Rattle.step_facts.specs.Cleared.{ClearedIsSolved, ClearedMeans}
+use Rattle.step_facts.specs.Grouped.{IsGroupedCube}
+use Rattle.step_facts.specs.Cleared.{ClearedMeans}
 use Rattle.step_facts.proofs.StepFits.{settled_fit, busy_fit, rest_fit, parts_fit}
 use Rattle.step_facts.proofs.Finished.{finished_fails}
-use Rattle.step_facts.proofs.GroupedShape.{grouped_is_solved, idle_is_alone}
+use Rattle.step_facts.proofs.Grouped.{grouped_is_right}
+use Rattle.step_facts.proofs.Cleared.{busy_parts, not_idle, last_back, last_fixed, last_low, last_high, end_over, end_solved}
 use Rattle.step_facts.proofs.GroupedMeans.{holds_beside}
 
 -- the atoms of other variables than these
@@ -69,64 +67,7 @@ others idle (b ∷ basic) =
       }
     ]
 
-busy_mentions : (idle : List ℕ) (old new : List Part) → WithoutIdle idle old new → (part : Part) → Contains new part → (v : ℕ) → Contains idle v → ¬ Mentions part v
-busy_mentions idle old new (WithoutIdle.all_done) part i v k = absurd (omega (arith, i.1))
-busy_mentions idle old new (WithoutIdle.dropped p w rest kept at says more) part i v k = busy_mentions idle rest kept more part i v k
-busy_mentions idle old new (WithoutIdle.stays p rest kept none more) part i v k = elim (contains_cases p part kept i) [
-  | inl e ↦ subst (λ (z : Part). ¬ Mentions z v) e (none v k)
-  | inr later ↦ busy_mentions idle rest kept more part later v k
-]
-
-module _ (raw mid cube : Cube) (idle : List ℕ) (first : List Part) (over : BasicOver (raw.free + raw.outer) raw.basic) (g : IsGrouped raw mid idle)
-    (c : IsCleared mid idle first cube) where
-  mid_is : IsSolved mid.basic × AllBelow (mid.free + mid.outer) mid.basic × ((u r : ℕ) → Contains mid.basic (VarVar u r) → u < mid.free)
-  mid_is = grouped_is_solved raw mid idle over g
-
-  all_ordered : (v : ℕ) → mid.free ≤ v → v < mid.free + mid.outer → Contains c.order v ⊎ Contains idle v
-  all_ordered v a b = elim (stands_tells idle v) [
-    | inl h ↦ inr h.1
-    | inr h ↦ inl ((c.order_is v).1 ((a, b), h.1))
-  ]
-
-  pub last_back : (v : ℕ)
-      → old_number mid.free (mid.free + mid.outer) (c.order ++ idle) (new_number mid.free (mid.free + mid.outer) (c.order ++ idle) v) ≡ v
-  last_back v = new_back mid.free (mid.free + mid.outer) c.order idle (omega arith) all_ordered v
-
-  last_fixed : (v : ℕ) → v < mid.free
-      → (new_number mid.free (mid.free + mid.outer) (c.order ++ idle) v ≡ v) × (old_number mid.free (mid.free + mid.outer) (c.order ++ idle) v ≡ v)
-  last_fixed v w = new_fixed mid.free (mid.free + mid.outer) c.order idle (omega arith) all_ordered v w
-
-  pub last_low : (v : ℕ) → v < mid.free + mid.outer → ¬ Contains idle v
-      → new_number mid.free (mid.free + mid.outer) (c.order ++ idle) v < cube.free + cube.outer
-  last_low v b none = elim (side v mid.free) [
-    | inl w ↦ omega (arith, (last_fixed v w).0, w, c.free_is)
-    | inr a ↦
-        let p = new_front mid.free (mid.free + mid.outer) c.order idle (omega arith) all_ordered v a b ((c.order_is v).1 ((a, b), none)) in
-        omega (arith, p.1, c.free_is, c.outer_is)
-  ]
-
-  pub last_high : (v : ℕ) → mid.free + mid.outer ≤ v → cube.free + cube.outer ≤ new_number mid.free (mid.free + mid.outer) (c.order ++ idle) v
-  last_high v le =
-      let high = new_high mid.free (mid.free + mid.outer) c.order idle (omega arith) all_ordered v le in
-      omega (arith, high, c.free_is, c.outer_is)
-
-  not_idle : (a : Flat) → Contains mid.basic a → ¬ Contains idle (variable_of a) → (v : ℕ) → Contains (variables_of a) v → ¬ Contains idle v
-  not_idle a i none v o = λ k.
-      let q : a ≡ Finite v = (idle_is_alone raw mid idle over g v k).1 a i o in
-      none (subst (λ (z : Flat). Contains idle (variable_of z)) (sym q) k)
-
-  pub last_solved : IsSolved cube.basic
-  last_solved = solved_kept _ _ mid.basic cube.basic c.basic_is (λ v. old_number mid.free (mid.free + mid.outer) (c.order ++ idle) v) last_back
-      mid.free (λ v w. (last_fixed v w).0) (λ u r i none. mid_is.2 u r i) mid_is.0
-
-  pub cleared_low : AllBelow (cube.free + cube.outer) cube.basic
-  cleared_low a i v o =
-      let (b, j, none, e) = (c.basic_is.is a).0 i in
-      let there : Contains (map (new_number mid.free (mid.free + mid.outer) (c.order ++ idle)) (variables_of b)) v =
-      subst (λ (xs : List ℕ). Contains xs v) (ap (λ (z : Flat). variables_of z) e ∙ list_renumbered _ b) o in
-      let (x, ox, is) = contains_image (new_number mid.free (mid.free + mid.outer) (c.order ++ idle)) (variables_of b) v there in
-      omega (arith, is, last_low x (mid_is.1 b j x ox) (not_idle b j none x ox))
-
+module _ (mid cube : Cube) (idle : List ℕ) (first : List Part) (before : IsGroupedCube mid idle) (c : IsCleared mid idle first cube) where
   -- the grouped cube without what is idle, under its last numbers
   is_renumbered : (rest : List Flat) → ((a : Flat) → Contains rest a ↔ (Contains mid.basic a × (¬ Contains idle (variable_of a))))
       → IsRenumberedCube (λ v. new_number mid.free (mid.free + mid.outer) (c.order ++ idle) v) (λ v. old_number mid.free (mid.free + mid.outer) (c.order ++ idle) v)
@@ -139,11 +80,11 @@ module _ (raw mid cube : Cube) (idle : List ℕ) (first : List Part) (over : Bas
       })
   is_renumbered rest rest_is = record {
     free_is = sym c.free_is;
-    fixed = λ v w. last_fixed v w;
+    fixed = last_fixed mid idle first cube before c;
     moves = λ v s. record {
-      back = last_back v;
-      low = λ w. last_low v w (stands_busy v s);
-      high = λ le. last_high v le;
+      back = last_back mid idle first cube before c v;
+      low = λ w. last_low mid idle first cube before c v w (stands_busy v s);
+      high = λ le. let e = last_high mid idle first cube before c v le in omega (arith, e);
     };
     basic_is = λ a. (
       λ i. let (b, j, none, e) = (c.basic_is.is a).0 i in (b, (rest_is b).1 (j, none), e),
@@ -153,16 +94,16 @@ module _ (raw mid cube : Cube) (idle : List ℕ) (first : List Part) (over : Bas
   }
     where
       stands_busy : (v : ℕ) → StandsInCube (record { free = mid.free; outer = mid.outer; basic = rest; parts = c.busy }) v → ¬ Contains idle v
-      stands_busy v (in_basic (a, i, o)) = let p = (rest_is a).0 i in not_idle a p.0 p.1 v o
-      stands_busy v (in_part part i says) = λ k. busy_mentions idle first c.busy c.busy_is part i v k says
-
-pub cleared_is_solved : ClearedIsSolved
-cleared_is_solved raw mid cube idle first over g c = (last_solved raw mid cube idle first over g c, cleared_low raw mid cube idle first over g c)
+      stands_busy v (in_basic (a, i, o)) = let p = (rest_is a).0 i in not_idle mid idle before a p.0 p.1 v o
+      stands_busy v (in_part part i says) = λ k. (busy_parts idle first c.busy c.busy_is part i).1 v k says
 
 module _ (σ : Signature) (raw mid cube : Cube) (idle : List ℕ) (first : List Part) (e : Valuation σ) (over : IsWellNumbered raw) (raw_fits : CubeFits σ raw)
     (g : IsGrouped raw mid idle) where
-  mid_solved : IsSolved mid.basic × AllBelow (mid.free + mid.outer) mid.basic × ((u r : ℕ) → Contains mid.basic (VarVar u r) → u < mid.free)
-  mid_solved = grouped_is_solved raw mid idle over.basic g
+  before : IsGroupedCube mid idle
+  before = grouped_is_right raw mid idle over g
+
+  mid_low : AllBelow (mid.free + mid.outer) mid.basic
+  mid_low = over_below (mid.free + mid.outer) mid.basic before.over.basic
 
   mid_fit : Fit (IsRoot σ) mid.basic
   mid_fit = rest_fit (IsRoot σ) raw mid idle (cube_fit σ raw raw_fits) g
@@ -183,13 +124,13 @@ module _ (σ : Signature) (raw mid cube : Cube) (idle : List ℕ) (first : List 
     pub settled_there : CubeHolds e mid → CubeHolds e settled_cube
     settled_there = holds_beside e mid settled_cube refl (λ d h all. (
       h,
-      settles_there σ (mid.free + mid.outer) mid.basic mid_solved.0 mid_solved.1 mid_fits d h mid.parts first settles mid_part_fits all,
+      settles_there σ (mid.free + mid.outer) mid.basic before.solved mid_low mid_fits d h mid.parts first settles mid_part_fits all,
     ))
 
     pub settled_back : CubeHolds e settled_cube → CubeHolds e mid
     settled_back = holds_beside e settled_cube mid refl (λ d h all. (
       h,
-      settles_back σ (mid.free + mid.outer) mid.basic mid_solved.0 mid_solved.1 mid_fits d h mid.parts first settles mid_part_fits all,
+      settles_back σ (mid.free + mid.outer) mid.basic before.solved mid_low mid_fits d h mid.parts first settles mid_part_fits all,
     ))
 
     module _ (c : IsCleared mid idle first cube) where
@@ -202,13 +143,13 @@ module _ (σ : Signature) (raw mid cube : Cube) (idle : List ℕ) (first : List 
       across : (o : Others idle mid.basic) → CubeHolds e settled_cube ↔ CubeHolds e last_cube
       across o =
           let idle_cube : Cube = record { free = mid.free; outer = mid.outer; basic = o.rest; parts = c.busy } in
-          let goes : CubeHolds e settled_cube ↔ CubeHolds e idle_cube = idle_may_go σ settled_cube idle o.rest c.busy e mid_solved.0
+          let goes : CubeHolds e settled_cube ↔ CubeHolds e idle_cube = idle_may_go σ settled_cube idle o.rest c.busy e before.solved
           (each_of (λ (part : Part). IsPartOver (mid.free + mid.outer) mid.basic part.basic) first
-          (settles_over (mid.free + mid.outer) mid.basic mid_solved.0 mid_solved.1 mid.parts first settles))
-          (idle_is_alone raw mid idle over.basic g) c.busy_is o.is in
+          (settles_over (mid.free + mid.outer) mid.basic before.solved mid_low mid.parts first settles))
+          (λ v i. (before.outer v i, before.alone v i)) c.busy_is o.is in
           let moves : CubeHolds e idle_cube ↔ CubeHolds e last_cube = renumbered_means σ idle_cube last_cube
           (λ v. new_number mid.free (mid.free + mid.outer) (c.order ++ idle) v) (λ v. old_number mid.free (mid.free + mid.outer) (c.order ++ idle) v) e
-          (is_renumbered raw mid cube idle first over.basic g c o.rest o.is) in
+          (is_renumbered mid cube idle first before c o.rest o.is) in
           (λ h. moves.0 (goes.0 h), λ h. goes.1 (moves.1 h))
 
       cube_fits_here : BasicFits σ cube.basic
@@ -218,20 +159,23 @@ module _ (σ : Signature) (raw mid cube : Cube) (idle : List ℕ) (first : List 
       last_fits part i = fits σ part.basic ((moved_parts_fit (IsRoot σ) (new_number mid.free (mid.free + mid.outer) (c.order ++ idle)) (length idle) c.busy
           (busy_fit (IsRoot σ) idle first c.busy (settled_fit (IsRoot σ) (mid.free + mid.outer) mid.basic mid.parts first mid_fit mid_parts_fit settles) c.busy_is)).each part i)
 
-      cube_solved : IsSolved cube.basic × AllBelow (cube.free + cube.outer) cube.basic
-      cube_solved = cleared_is_solved raw mid cube idle first over.basic g c
+      cube_solved : IsSolved cube.basic
+      cube_solved = end_solved mid idle first cube before c
+
+      cube_low : AllBelow (cube.free + cube.outer) cube.basic
+      cube_low = over_below (cube.free + cube.outer) cube.basic (end_over mid idle first cube before c)
 
       ends : CubeHolds e last_cube → CubeHolds e cube
       ends = holds_beside e last_cube cube refl (λ d h all. (
         h,
         (finished_fails σ (cube.free + cube.outer) c.second cube.parts d c.parts_are).0
-            (settles_there σ (cube.free + cube.outer) cube.basic cube_solved.0 cube_solved.1 cube_fits_here d h last_parts c.second c.second_is last_fits all),
+            (settles_there σ (cube.free + cube.outer) cube.basic cube_solved cube_low cube_fits_here d h last_parts c.second c.second_is last_fits all),
       ))
 
       begins : CubeHolds e cube → CubeHolds e last_cube
       begins = holds_beside e cube last_cube refl (λ d h all. (
         h,
-        settles_back σ (cube.free + cube.outer) cube.basic cube_solved.0 cube_solved.1 cube_fits_here d h last_parts c.second c.second_is last_fits
+        settles_back σ (cube.free + cube.outer) cube.basic cube_solved cube_low cube_fits_here d h last_parts c.second c.second_is last_fits
             ((finished_fails σ (cube.free + cube.outer) c.second cube.parts d c.parts_are).1 all),
       ))
 

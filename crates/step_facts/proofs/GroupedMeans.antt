@@ -22,14 +22,14 @@ use Rattle.cube_facts.specs.Numbers.{old_number}
 use Rattle.cube_facts.specs.Settling.{with_moved}
 use Rattle.cube_facts.specs.Renumbered.{IsRenumberedCube}
 use Rattle.cube_facts.proofs.Fits.{renumbering_fits}
-use Rattle.cube_facts.proofs.FreshValues.{stands_tells}
+use Rattle.cube_facts.proofs.Variables.{stands_tells}
 use Rattle.cube_facts.proofs.Moved.{moved_means}
 use Rattle.cube_facts.proofs.PartsMove.{bases_of_renumbered}
 use Rattle.cube_facts.proofs.RenumberedCubes.{renumbered_means}
-use Rattle.cube_facts.proofs.NewNumbers.{new_within, new_high}
 use Rattle.step_facts.specs.Grouped.{GroupedMeans}
 use Rattle.step_facts.proofs.OneGrouping.{same_cube}
-use Rattle.step_facts.proofs.GroupedShape.{all_ordered, number_back, number_fixed, rest_low, moved_determines}
+use Rattle.step_facts.proofs.NewNumbers.{range_number, beyond_number}
+use Rattle.step_facts.proofs.Grouped.{covers, number_back, number_fixed, rest_low, moved_determines}
 
 -- a cube holds where one does whose basic holds with its own, and whose parts fail with its own
 pub holds_beside : {σ : Signature} (e : Valuation σ) (one other : Cube) → one.free ≡ other.free
@@ -85,8 +85,10 @@ module _ (σ : Signature) (raw mid : Cube) (idle : List ℕ) (e : Valuation σ) 
     fixed = λ v w. number_fixed raw mid idle over.basic g v w;
     moves = λ v s. record {
       back = number_back raw mid idle over.basic g v;
-      low = λ w. new_within raw.free (raw.free + raw.outer) g.kept g.determined (omega arith) (all_ordered raw mid idle over.basic g) v w;
-      high = λ w. new_high raw.free (raw.free + raw.outer) g.kept g.determined (omega arith) (all_ordered raw mid idle over.basic g) v w;
+      low = λ w.
+          let r = range_number raw.free (raw.free + raw.outer) g.kept g.determined (omega arith) (covers raw mid idle over.basic g) v w in omega (arith, r);
+      high = λ w.
+          let r = beyond_number raw.free (raw.free + raw.outer) g.kept g.determined (omega arith) (covers raw mid idle over.basic g) v w in omega (arith, r);
     };
     basic_is = λ a. (
       λ i. elim (Contains-append_cases mid.basic g.moved a i) [

@@ -19,8 +19,8 @@ use Rattle.cube_facts.specs.Settling.{HasSettledShape}
 use Rattle.cube_facts.proofs.OldNumbers.{old_number_is_back}
 use Rattle.cube_facts.proofs.Places.{number_low, number_in, place_low, side}
 use Rattle.cube_facts.proofs.Settle.{some_atom}
-use Rattle.cube_facts.proofs.Shape.{own}
-use Rattle.cube_facts.proofs.Renumberings.{variable_renumbered, list_back, WasTerm, was_equal, was_term, was_finite, renumbering_over}
+use Rattle.cube_facts.proofs.Variables.{own_variable, variable_renumbered}
+use Rattle.step_facts.proofs.Renumberings.{list_back, WasTerm, was_equal, was_term, was_finite, renumbering_over}
 
 list_same : (f : ℕ → ℕ) (xs : List ℕ) → ((v : ℕ) → Contains xs v → f v ≡ v) → map f xs ≡ xs
 list_same f [] same = refl
@@ -74,14 +74,14 @@ module _ (m : ℕ) (base : List Flat) (base_over : BasicOver m base) (part new :
 
   open_above : (v : ℕ) → m ≤ v → IsOpen base v
   open_above v le = record {
-    no_variable = λ r i. let low = base_low (VarVar v r) i v (own (VarVar v r)) in omega (arith, low, le);
-    no_term = λ s xs i. let low = base_low (VarTerm v s xs) i v (own (VarTerm v s xs)) in omega (arith, low, le);
+    no_variable = λ r i. let low = base_low (VarVar v r) i v (own_variable (VarVar v r)) in omega (arith, low, le);
+    no_term = λ s xs i. let low = base_low (VarTerm v s xs) i v (own_variable (VarTerm v s xs)) in omega (arith, low, le);
   }
 
   new_open : (b : Flat) → Contains part.basic b → IsOpen base (number (variable_of b))
   new_open b i = elim (side (variable_of b) m) [
     | inl low ↦ subst (λ (z : ℕ). IsOpen base z) (sym (low_number (variable_of b) low)) (shape.left_open b i)
-    | inr le ↦ open_above (number (variable_of b)) (omega (arith, high_number (variable_of b) (b, i, own b) le))
+    | inr le ↦ open_above (number (variable_of b)) (omega (arith, high_number (variable_of b) (b, i, own_variable b) le))
   ]
 
   -- equations of variables stay as they are
@@ -111,8 +111,8 @@ module _ (m : ℕ) (base : List Flat) (base_over : BasicOver m base) (part new :
   new_unmarked : (u : ℕ) → Contains new.basic (Finite u) → ¬ Contains base (Finite u)
   new_unmarked u i = λ j.
       let q = was_finite number Any part.basic new.basic n.basic_is u i in
-      let low : u < m = base_low (Finite u) j u (own (Finite u)) in
-      let left_low : q.left < m = was_low q.left (Finite q.left, q.stands, own (Finite q.left)) (omega (arith, q.left_is, low)) in
+      let low : u < m = base_low (Finite u) j u (own_variable (Finite u)) in
+      let left_low : q.left < m = was_low q.left (Finite q.left, q.stands, own_variable (Finite q.left)) (omega (arith, q.left_is, low)) in
       let same : u ≡ q.left = q.left_is ∙ low_number q.left left_low in
       shape.shape.unmarked q.left q.stands (subst (λ (z : ℕ). Contains base (Finite z)) same j)
 

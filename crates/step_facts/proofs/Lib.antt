@@ -3,8 +3,8 @@ pub mod ClearedMeans
 pub mod Finished
 pub mod Grouped
 pub mod GroupedMeans
-pub mod GroupedShape
 pub mod InnerNumbers
+pub mod NewNumbers
 pub mod NoneExactly
 pub mod Occurrences
 pub mod OneGrouping
@@ -14,4 +14,5 @@ pub mod OneOutcome
 pub mod OneSettling
 pub mod OutcomeMeans
 pub mod ReducedOutcomes
+pub mod Renumberings
 pub mod StepFits

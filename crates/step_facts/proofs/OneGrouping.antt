@@ -12,6 +12,7 @@ use Rattle.flat_form.specs.Parts.{renumbered}
 use Rattle.flat_form.specs.Orders.{new_number, IsRenumbering}
 use Rattle.flat_form.specs.Steps.{IsGrouped, IsOuter, IsSplit}
 use Rattle.flat_facts.proofs.Shapes.{added_determined}
+use Rattle.step_facts.proofs.NewNumbers.{pair_tail}
 use Rattle.step_facts.specs.OneOutcome.{GroupedIsOne}
 use Rattle.step_facts.proofs.OneNumbering.{one_renumbering}
 
@@ -19,9 +20,6 @@ use Rattle.step_facts.proofs.OneNumbering.{one_renumbering}
 abbrev Rises : List ℕ → Type 0
 Rises [] = Unit {0}
 Rises (x ∷ xs) = ((y : ℕ) → Contains xs y → x < y) × Rises xs
-
-pair_tail : (x : ℕ) (xs : List ℕ) → AllPairs (λ (a : ℕ) (b : ℕ). a < b) (x ∷ xs) → AllPairs (λ (a : ℕ) (b : ℕ). a < b) xs
-pair_tail x xs pairs i j d less low = pairs (suc i) (suc j) d (omega arith) (omega arith)
 
 rises : (xs : List ℕ) → AllPairs (λ (a : ℕ) (b : ℕ). a < b) xs → Rises xs
 rises [] pairs = tt

@@ -5,7 +5,6 @@ use Rattle.tree_model.specs.Signatures.{Signature, IsRoot}
 use Rattle.tree_facts.proofs.Members.{contains_first, contains_later, contains_cases}
 use Rattle.flat_form.specs.declared.atom.Flat.{Flat}
 use Rattle.flat_form.specs.declared.cube.Part.{Part}
-use Rattle.flat_form.specs.Added.{IsAdded}
 use Rattle.flat_form.specs.Parts.{IsPruned}
 use Rattle.flat_form.specs.Meanings.{HasNone}
 use Rattle.flat_form.specs.Steps.{SettlesTo, Settles, Mentions, WithoutIdle, NumbersInner, Finishes, IsImplied}

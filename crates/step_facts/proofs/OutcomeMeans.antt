@@ -9,18 +9,19 @@ use Rattle.flat_form.specs.Fitting.{AtomFits, CubeFits}
 use Rattle.flat_form.specs.Meanings.{CubeHolds}
 use Rattle.flat_form.specs.Numbering.{IsWellNumbered}
 use Rattle.flat_form.specs.Steps.{IsGrouped, Settles, IsImplied, IsCleared, Outcome}
+use Rattle.flat_facts.proofs.Follows.{over_below}
 use Rattle.cube_facts.proofs.Settle.{all_of, settled_fails}
 use Rattle.step_facts.specs.Outcomes.{OutcomeMeans}
 use Rattle.step_facts.proofs.ClearedMeans.{mid_fits, mid_part_fits, settled_there, settled_back, cleared_means}
 use Rattle.step_facts.proofs.Finished.{one_fails}
-use Rattle.step_facts.proofs.GroupedShape.{grouped_is_solved}
+use Rattle.step_facts.proofs.Grouped.{grouped_is_right}
 use Rattle.step_facts.proofs.GroupedMeans.{grouped_means}
 
 module _ (σ : Signature) (raw mid : Cube) (idle : List ℕ) (e : Valuation σ) (over : IsWellNumbered raw) (raw_fits : CubeFits σ raw) (g : IsGrouped raw mid idle) where
   implied_fails : (part : Part) → Contains mid.parts part → IsImplied (mid.free + mid.outer) mid.basic part → ¬ CubeHolds e raw
   implied_fails part i (added, adds, cut) = λ holds. (grouped_means σ raw mid idle e over raw_fits g).0 holds (λ found.
-      let is = grouped_is_solved raw mid idle over.basic g in
-      settled_fails (mid.free + mid.outer) mid.basic part.basic is.0 is.1 σ found.0 found.1.1
+      let before = grouped_is_right raw mid idle over g in
+      settled_fails (mid.free + mid.outer) mid.basic part.basic before.solved (over_below (mid.free + mid.outer) mid.basic before.over.basic) σ found.0 found.1.1
       (all_of (AtomFits σ) mid.basic part.basic (mid_fits σ raw mid mid idle [] e over raw_fits g) (mid_part_fits σ raw mid mid idle [] e over raw_fits g part i))
       added [] adds cut (one_fails (mid.free + mid.outer) found.0 mid.parts part found.1.2 i) found.0 (λ v w path. refl) tt)
 

@@ -52,10 +52,10 @@ module _ (raw cube : Cube) (over : IsWellNumbered raw) (s : Steps raw cube) wher
       (settled_parts_shape (s.mid.free + s.mid.outer) s.mid.basic s.mid.parts s.first before.solved before.over.basic before.over.parts s.settles) i
 
   solved : IsSolved cube.basic
-  solved = end_solved s.mid s.idle s.first cube before settled s.clear
+  solved = end_solved s.mid s.idle s.first cube before s.clear
 
   shape : (part : Part) → Contains s.clear.second part → HasSettledShape (cube.free + cube.outer) cube.basic part
-  shape part i = second_shape s.mid s.idle s.first cube before settled s.clear part i
+  shape part i = second_shape s.mid s.idle s.first cube before s.clear settled part i
 
   -- the part that a part of the cube was
   was : (new : Part) → Contains cube.parts new → (part : Part) × Contains s.clear.second part × NumbersInner (cube.free + cube.outer) part new
@@ -66,10 +66,10 @@ module _ (raw cube : Cube) (over : IsWellNumbered raw) (s : Steps raw cube) wher
 
   well_numbered : IsWellNumbered cube
   well_numbered = record {
-    basic = end_over s.mid s.idle s.first cube before settled s.clear;
+    basic = end_over s.mid s.idle s.first cube before s.clear;
     parts = each_of (PartOver (cube.free + cube.outer)) cube.parts (λ new i.
         let (part, stands, numbers) = was new i in
-        new_over (cube.free + cube.outer) cube.basic (end_over s.mid s.idle s.first cube before settled s.clear) part new (shape part stands) numbers);
+        new_over (cube.free + cube.outer) cube.basic (end_over s.mid s.idle s.first cube before s.clear) part new (shape part stands) numbers);
   }
 
   module _ (σ : Signature) (fitting : CubeFits σ raw) where
@@ -91,7 +91,7 @@ module _ (raw cube : Cube) (over : IsWellNumbered raw) (s : Steps raw cube) wher
         (renumbering_fits (IsRoot σ) number (λ atom. ¬ Contains s.idle (variable_of atom)) s.mid.basic cube.basic s.clear.basic_is mid_fit)
 
     some : (part : Part) → Contains s.clear.second part → ¬ (part.basic ≡ [])
-    some part i = second_some s.mid s.idle s.first cube before settled s.clear σ base_fits (λ p j. fits σ p.basic (moved_fit.each p j)) s.some part i
+    some part i = second_some s.mid s.idle s.first cube before s.clear settled σ base_fits (λ p j. fits σ p.basic (moved_fit.each p j)) s.some part i
 
     parts_reduced : All (IsReducedPart (cube.free + cube.outer) cube.basic) cube.parts
     parts_reduced = each_of (IsReducedPart (cube.free + cube.outer) cube.basic) cube.parts (λ new i.

@@ -6,17 +6,8 @@ use Rattle.flat_form.specs.declared.cube.Part.{Part}
 use Rattle.flat_form.specs.declared.cube.Cube.{Cube}
 use Rattle.flat_form.specs.Fitting.{CubeFits}
 use Rattle.flat_form.specs.Meanings.{AllFail, CubeHolds}
-use Rattle.flat_form.specs.Numbering.{BasicOver, IsWellNumbered}
-use Rattle.flat_form.specs.Parts.{AllBelow}
-use Rattle.flat_form.specs.Solved.{IsSolved}
+use Rattle.flat_form.specs.Numbering.{IsWellNumbered}
 use Rattle.flat_form.specs.Steps.{IsGrouped, Settles, IsCleared, Finishes}
-
--- the basic of a cleared cube is solved and over its variables
-abbrev pub ClearedIsSolved : Type 0
-ClearedIsSolved =
-    (raw mid cube : Cube) (idle : List ℕ) (first : List Part) → BasicOver (raw.free + raw.outer) raw.basic → IsGrouped raw mid idle
-    → IsCleared mid idle first cube
-    → IsSolved cube.basic × AllBelow (cube.free + cube.outer) cube.basic
 
 -- parts fail where they do with their inner variables numbered and each of them once
 abbrev pub FinishedFails : Type 0

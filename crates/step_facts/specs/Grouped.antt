@@ -7,42 +7,30 @@ use Rattle.flat_form.specs.declared.atom.Flat.TheVariants.{VarVar, Finite}
 use Rattle.flat_form.specs.declared.cube.Cube.{Cube}
 use Rattle.flat_form.specs.Fitting.{CubeFits}
 use Rattle.flat_form.specs.Numbering.{IsWellNumbered, BasicOver}
-use Rattle.flat_form.specs.Parts.{variables_of, AllBelow}
-use Rattle.flat_form.specs.Solved.{variable_of, IsSolved}
+use Rattle.flat_form.specs.Parts.{variables_of}
+use Rattle.flat_form.specs.Solved.{IsSolved}
 use Rattle.flat_form.specs.Steps.{IsGrouped, IsOuter}
 use Rattle.flat_form.specs.Meanings.{CubeHolds}
 use Rattle.flat_facts.specs.PartLaws.{Determines}
 
--- what the first steps make of a raw cube: its basic is solved, with equal variables among the free ones, and no atom
--- of another variable mentions an idle one
+-- The cube that they make is well numbered, its basic is solved, with equations of variables among the free ones, and
+-- idle variables are outer ones that stand in finite atoms alone.
 pub record IsGroupedCube (mid : Cube) (idle : List ℕ) : Type 0 where
   pub over : IsWellNumbered mid
   pub solved : IsSolved mid.basic
   pub low : (u h : ℕ) → Contains mid.basic (VarVar u h) → (u < mid.free) × (h < mid.free)
-  pub apart : (atom : Flat) → Contains mid.basic atom → ¬ Contains idle (variable_of atom) → (v : ℕ) → Contains (variables_of atom) v → ¬ Contains idle v
+  pub outer : (v : ℕ) → Contains idle v → IsOuter mid.free mid.outer v
+  pub alone : (v : ℕ) → Contains idle v → (atom : Flat) → Contains mid.basic atom → Contains (variables_of atom) v → atom ≡ Finite v
 
 -- so it is
 abbrev pub GroupedIsRight : Type 0
 GroupedIsRight = (raw mid : Cube) (idle : List ℕ) → IsWellNumbered raw → IsGrouped raw mid idle → IsGroupedCube mid idle
-
--- the basic of a grouped cube is solved and over its variables, and its variable equations are of free variables
-abbrev pub GroupedIsSolved : Type 0
-GroupedIsSolved =
-    (raw mid : Cube) (idle : List ℕ) → BasicOver (raw.free + raw.outer) raw.basic → IsGrouped raw mid idle
-    → IsSolved mid.basic × AllBelow (mid.free + mid.outer) mid.basic × ((u r : ℕ) → Contains mid.basic (VarVar u r) → u < mid.free)
 
 -- what moves into the parts determines the variables that are not kept
 abbrev pub MovedIsDetermined : Type 0
 MovedIsDetermined =
     (raw mid : Cube) (idle : List ℕ) → BasicOver (raw.free + raw.outer) raw.basic → (grouped : IsGrouped raw mid idle)
     → Determines (mid.free + mid.outer) (mid.free + mid.outer + length grouped.determined) grouped.moved
-
--- idle variables are outer ones, and stand in finite atoms alone
-abbrev pub IdleIsAlone : Type 0
-IdleIsAlone =
-    (raw mid : Cube) (idle : List ℕ) → BasicOver (raw.free + raw.outer) raw.basic → IsGrouped raw mid idle
-    → (v : ℕ) → Contains idle v
-    → IsOuter mid.free mid.outer v × ((atom : Flat) → Contains mid.basic atom → Contains (variables_of atom) v → atom ≡ Finite v)
 
 -- a grouped cube holds where the raw cube does
 abbrev pub GroupedMeans : Type 0

@@ -1,21 +1,18 @@
 //! Laws of the steps, each a clause of a function that does nothing.
-ghost use Rattle.step_facts.specs.Cleared.{ClearedIsSolved, FinishedFails, ClearedMeans};
-ghost use Rattle.step_facts.specs.Grouped.{GroupedIsRight, GroupedIsSolved, MovedIsDetermined, IdleIsAlone, GroupedMeans};
+ghost use Rattle.step_facts.specs.Cleared.{FinishedFails, ClearedMeans};
+ghost use Rattle.step_facts.specs.Grouped.{GroupedIsRight, MovedIsDetermined, GroupedMeans};
 ghost use Rattle.step_facts.specs.OneOutcome.{InnerNumbersAreOne, OuterOrderIsOne, GroupedIsOne, OutcomeIsOne};
 ghost use Rattle.step_facts.specs.Outcomes.{OutcomeMeans, OutcomeIsOver, OutcomeIsSolved, OutcomeIsNumbered, OutcomeIsDistinct, OutcomePartsAreReduced, OutcomeIsReduced, NoneExactly, OutcomeSymbols, OutcomeFits};
 
 /// What the first two steps make of a raw cube.
 pub fn group_laws()
     ensures right { GroupedIsRight }
-    ensures solved { GroupedIsSolved }
     ensures moved { MovedIsDetermined }
-    ensures idle { IdleIsAlone }
     ensures means { GroupedMeans }
 {}
 
 /// What the last steps make of a grouped cube.
 pub fn clear_laws()
-    ensures solved { ClearedIsSolved }
     ensures finished { FinishedFails }
     ensures means { ClearedMeans }
 {}

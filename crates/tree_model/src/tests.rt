@@ -107,6 +107,26 @@ fn trees_of_other_nodes_may_be_the_same(rt: HostRuntime) -> Result<(), Fail> {
     Ok(())
 }
 
+// A loop of so many nodes.
+fn long_loop(alloc: Global, length: usize) -> Result<Tree, Fail> {
+    let mut nodes = Vec::new(alloc);
+    for next in 1..length {
+        nodes.push(node(alloc, F, &[next])?)?;
+    }
+    nodes.push(node(alloc, F, &[0])?)?;
+    Ok(Tree::new(nodes, 0)?)
+}
+
+// More pairs of nodes than 16 bits can number.
+#[test]
+fn a_long_loop_is_a_short_one(rt: HostRuntime) -> Result<(), Fail> {
+    let long = long_loop(rt.alloc(), 70_000)?;
+    let short = long_loop(rt.alloc(), 1)?;
+    assert_eq!(rt; same(rt.alloc(), &long, &short), Ok(true));
+    assert_eq!(rt; same(rt.alloc(), &short, &long), Ok(true));
+    Ok(())
+}
+
 #[test]
 fn a_loop_is_not_finite_and_a_shared_node_is(rt: HostRuntime) -> Result<(), Fail> {
     let alloc = rt.alloc();

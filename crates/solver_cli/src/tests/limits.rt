@@ -1,351 +1,110 @@
 // The limits on sizes and numbers: what just passes, and what is just refused.
-use super::{expect_ample, source_of};
-use crate::Status;
-use crate::Status::{Done, Refused};
+use super::expect_outcome;
 use std::alloc::Global;
 use std::process::Abort;
 use std::test::Fail;
 
-// As `Case`, of a text whose pieces are each repeated so often.
-type LongCase = (
-    &'static [(&'static str, usize)],
-    Status,
-    &'static str,
-    &'static str,
-);
-
-fn repeated(alloc: Global, pieces: &[(&'static str, usize)]) -> Result<String, Fail> {
+// A text as its pieces, with `#` between them: how often each is repeated, a star, and the piece.
+fn repeated(alloc: Global, pieces: &str) -> Result<String, Fail> {
     let mut text = String::new(alloc);
-    for &(piece, count) in pieces {
+    for piece in pieces.split("#") {
+        let (count, part) = piece.split_once("*").ok_or("a piece has two parts")?;
+        let count = count.parse::<usize>().ok().ok_or("a count is a number")?;
         for _ in 0..count {
-            text.push_str(piece)?;
+            text.push_str(part)?;
         }
     }
     Ok(text)
 }
 
-fn expect_text(
-    rt: &impl Abort,
-    alloc: Global,
-    text: &str,
-    status: Status,
-    written: &str,
-    line: &str,
-) -> Result<(), Fail> {
-    let mut source = source_of(alloc, text.as_bytes())?;
-    expect_ample(
-        rt,
-        alloc,
-        &mut source,
-        status,
-        written.as_bytes(),
-        line.as_bytes(),
-        line,
-    )
-}
-
-fn expect_long_cases(rt: &impl Abort, alloc: Global, cases: &[LongCase]) -> Result<(), Fail> {
-    for &(pieces, status, written, line) in cases {
+// What comes of files, a row for each: the outcome, `<<`, and the pieces of the file's text.
+fn expect_long_rows(rt: &impl Abort, alloc: Global, table: &str) -> Result<(), Fail> {
+    for row in table.lines() {
+        if row.starts_with("//") {
+            continue;
+        }
+        let (wanted, pieces) = row.split_once("<< ").ok_or("a row has two parts")?;
         let text = repeated(alloc, pieces)?;
-        expect_text(rt, alloc, &text, status, written, line)?;
+        expect_outcome(rt, alloc, text.as_bytes(), wanted.trim_end(), pieces)?;
     }
     Ok(())
 }
 
+const NESTINGS: &str = "\
+1 true << 1*solve #200*~#1*true.
+fault 206 limit << 1*solve #201*~#1*true.
+1 true << 1*solve #200*(#1*true#200*)#1*.
+fault 206 limit << 1*solve #201*(#1*true#201*)#1*.
+1 true << 1*solve #200*exists X: #1*true.
+1 true << 1*solve #200*forall X: #1*true.
+fault 2006 limit << 1*solve #201*forall X: #1*true.
+1 true << 1*solve #200*true -> #1*true.
+fault 1611 limit << 1*solve #201*true -> #1*true.
+fault 1620 sort << 1*symbol a/0. solve #200*true -> #1*a -> true.
+1 true << 1*symbol f/1. solve exists X: X = #199*f(#1*X#199*)#1*.
+fault 431 limit << 1*symbol f/1. solve exists X: X = #200*f(#1*X#200*)#1*.
+1 true << 1*symbol f/1. solve exists X: (X = #198*f(#1*X#198*)#1*).
+fault 430 limit << 1*symbol f/1. solve exists X: (X = #199*f(#1*X#199*)#1*).
+// depth counts, and no total
+1 true << 1*solve (true)#299* & (true)#1*.
+1 true << 1*solve (true#199* -> true#1*) & (true#199* -> true#1*).
+fault 3205 limit << 1*solve (true#199* -> true#1*) & (true#200* -> true#1*).";
+
 #[test]
 fn nestings(rt: HostRuntime) -> Result<(), Fail> {
-    let cases: &[LongCase] = &[
-        (
-            &[("solve ", 1), ("~", 200), ("true.", 1)],
-            Refused,
-            "",
-            "fault 0 notbuilt\n",
-        ),
-        (
-            &[("solve ", 1), ("~", 201), ("true.", 1)],
-            Refused,
-            "",
-            "fault 206 limit\n",
-        ),
-        (
-            &[("solve ", 1), ("(", 200), ("true", 1), (")", 200), (".", 1)],
-            Refused,
-            "",
-            "fault 0 notbuilt\n",
-        ),
-        (
-            &[("solve ", 1), ("(", 201), ("true", 1), (")", 201), (".", 1)],
-            Refused,
-            "",
-            "fault 206 limit\n",
-        ),
-        (
-            &[("solve ", 1), ("exists X: ", 200), ("true.", 1)],
-            Refused,
-            "",
-            "fault 0 notbuilt\n",
-        ),
-        (
-            &[("solve ", 1), ("forall X: ", 201), ("true.", 1)],
-            Refused,
-            "",
-            "fault 2006 limit\n",
-        ),
-        (
-            &[("solve ", 1), ("true -> ", 200), ("true.", 1)],
-            Refused,
-            "",
-            "fault 0 notbuilt\n",
-        ),
-        (
-            &[("solve ", 1), ("true -> ", 201), ("true.", 1)],
-            Refused,
-            "",
-            "fault 1611 limit\n",
-        ),
-        (
-            &[
-                ("symbol a/0. solve ", 1),
-                ("true -> ", 200),
-                ("a -> true.", 1),
-            ],
-            Refused,
-            "",
-            "fault 1620 sort\n",
-        ),
-        (
-            &[
-                ("symbol f/1. solve exists X: X = ", 1),
-                ("f(", 199),
-                ("X", 1),
-                (")", 199),
-                (".", 1),
-            ],
-            Done,
-            "1 true\n",
-            "",
-        ),
-        (
-            &[
-                ("symbol f/1. solve exists X: X = ", 1),
-                ("f(", 200),
-                ("X", 1),
-                (")", 200),
-                (".", 1),
-            ],
-            Refused,
-            "",
-            "fault 431 limit\n",
-        ),
-        (
-            &[
-                ("symbol f/1. solve exists X: (X = ", 1),
-                ("f(", 198),
-                ("X", 1),
-                (")", 198),
-                (").", 1),
-            ],
-            Done,
-            "1 true\n",
-            "",
-        ),
-        (
-            &[
-                ("symbol f/1. solve exists X: (X = ", 1),
-                ("f(", 199),
-                ("X", 1),
-                (")", 199),
-                (").", 1),
-            ],
-            Refused,
-            "",
-            "fault 430 limit\n",
-        ),
-        // depth counts, and no total
-        (
-            &[("solve (true)", 1), (" & (true)", 299), (".", 1)],
-            Refused,
-            "",
-            "fault 0 notbuilt\n",
-        ),
-        (
-            &[
-                ("solve (true", 1),
-                (" -> true", 199),
-                (") & (true", 1),
-                (" -> true", 199),
-                (").", 1),
-            ],
-            Refused,
-            "",
-            "fault 0 notbuilt\n",
-        ),
-        (
-            &[
-                ("solve (true", 1),
-                (" -> true", 199),
-                (") & (true", 1),
-                (" -> true", 200),
-                (").", 1),
-            ],
-            Refused,
-            "",
-            "fault 3205 limit\n",
-        ),
-    ];
-    expect_long_cases(&rt, rt.alloc(), cases)
+    expect_long_rows(&rt, rt.alloc(), NESTINGS)
 }
+
+const JOINTS: &str = "\
+1 true << 1*solve true#1000* & true#1*.
+1 false << 1*solve false#1000* | false#1*.
+fault 7011 limit << 1*solve true#1001* & true#1*.
+// parameters are none of them
+fault 0 notbuilt << 1*pred p(X, Y) := true#1000* & true#1*.
+fault 7011 limit << 1*solve true#1001* | true#1*.
+1 true << 1*symbol f/1. solve exists X: (X = f(X)#999* & X = f(X)#1*).
+fault 11027 limit << 1*symbol f/1. solve exists X: (X = f(X)#1000* & X = f(X)#1*).
+1 true << 1*solve exists#1000* X#1*: X = X.
+fault 2013 limit << 1*solve exists#1001* X#1*: X = X.
+1 true; 2 true << 1*solve exists#600* X#1*: X = X. solve exists#600* Y#1*: Y = Y.";
 
 #[test]
 fn joints_of_one_statement(rt: HostRuntime) -> Result<(), Fail> {
-    let cases: &[LongCase] = &[
-        (
-            &[("solve true", 1), (" & true", 1000), (".", 1)],
-            Refused,
-            "",
-            "fault 0 notbuilt\n",
-        ),
-        (
-            &[("solve true", 1), (" & true", 1001), (".", 1)],
-            Refused,
-            "",
-            "fault 7011 limit\n",
-        ),
-        // parameters are none of them
-        (
-            &[("pred p(X, Y) := true", 1), (" & true", 1000), (".", 1)],
-            Refused,
-            "",
-            "fault 0 notbuilt\n",
-        ),
-        (
-            &[("solve true", 1), (" | true", 1001), (".", 1)],
-            Refused,
-            "",
-            "fault 7011 limit\n",
-        ),
-        (
-            &[
-                ("symbol f/1. solve exists X: (X = f(X)", 1),
-                (" & X = f(X)", 999),
-                (").", 1),
-            ],
-            Done,
-            "1 true\n",
-            "",
-        ),
-        (
-            &[
-                ("symbol f/1. solve exists X: (X = f(X)", 1),
-                (" & X = f(X)", 1000),
-                (").", 1),
-            ],
-            Refused,
-            "",
-            "fault 11027 limit\n",
-        ),
-        (
-            &[("solve exists", 1), (" X", 1000), (": X = X.", 1)],
-            Done,
-            "1 true\n",
-            "",
-        ),
-        (
-            &[("solve exists", 1), (" X", 1001), (": X = X.", 1)],
-            Refused,
-            "",
-            "fault 2013 limit\n",
-        ),
-        (
-            &[
-                ("solve exists", 1),
-                (" X", 600),
-                (": X = X. solve exists", 1),
-                (" Y", 600),
-                (": Y = Y.", 1),
-            ],
-            Done,
-            "1 true\n2 true\n",
-            "",
-        ),
-    ];
-    expect_long_cases(&rt, rt.alloc(), cases)
+    expect_long_rows(&rt, rt.alloc(), JOINTS)
 }
+
+const LONG_WORDS: &str = "\
+<< 1*symbol #64*a#1*/0.
+fault 7 limit << 1*symbol #65*a#1*/0.
+1 true << 1*solve exists #64*X#1*: $0 = $0.
+fault 13 limit << 1*solve exists #65*X#1*: $0 = $0.
+fault 10 limit << 1*solve X = #65*X#1*.
+fault 6 unknown << 1*solve #65*q#1*.
+<< 1*symbol f/#200*0#1*1.
+fault 9 limit << 1*symbol f/1#200*0#1*.
+1 true << 1*solve exists X: X = $#200*0#1*1.";
 
 #[test]
 fn long_words(rt: HostRuntime) -> Result<(), Fail> {
-    let cases: &[LongCase] = &[
-        (&[("symbol ", 1), ("a", 64), ("/0.", 1)], Done, "", ""),
-        (
-            &[("symbol ", 1), ("a", 65), ("/0.", 1)],
-            Refused,
-            "",
-            "fault 7 limit\n",
-        ),
-        (
-            &[("solve exists ", 1), ("X", 64), (": $0 = $0.", 1)],
-            Done,
-            "1 true\n",
-            "",
-        ),
-        (
-            &[("solve exists ", 1), ("X", 65), (": $0 = $0.", 1)],
-            Refused,
-            "",
-            "fault 13 limit\n",
-        ),
-        (
-            &[("solve X = ", 1), ("X", 65), (".", 1)],
-            Refused,
-            "",
-            "fault 10 limit\n",
-        ),
-        (
-            &[("solve ", 1), ("q", 65), (".", 1)],
-            Refused,
-            "",
-            "fault 6 unknown\n",
-        ),
-        (&[("symbol f/", 1), ("0", 200), ("1.", 1)], Done, "", ""),
-        (
-            &[("symbol f/1", 1), ("0", 200), (".", 1)],
-            Refused,
-            "",
-            "fault 9 limit\n",
-        ),
-        (
-            &[("solve exists X: X = $", 1), ("0", 200), ("1.", 1)],
-            Done,
-            "1 true\n",
-            "",
-        ),
-    ];
-    expect_long_cases(&rt, rt.alloc(), cases)
+    expect_long_rows(&rt, rt.alloc(), LONG_WORDS)
 }
+
+const GREATEST: &str = "\
+<< 131072*       \x20
+1 true << 1*symbol f/1. solve exists X: X = f(X).#131067*        #1*  \x20";
 
 #[test]
 fn a_file_of_the_greatest_size(rt: HostRuntime) -> Result<(), Fail> {
-    let cases: &[LongCase] = &[(&[("        ", 131072)], Done, "", "")];
-    expect_long_cases(&rt, rt.alloc(), cases)
+    expect_long_rows(&rt, rt.alloc(), GREATEST)
 }
+
+const ONE_BYTE_MORE: &str = "\
+fault 1048576 limit << 131072*        #1*\x20
+fault 1048576 limit << 131072*((((((((#1*(";
 
 #[test]
 fn files_with_one_byte_more(rt: HostRuntime) -> Result<(), Fail> {
-    let cases: &[LongCase] = &[
-        (
-            &[("        ", 131072), (" ", 1)],
-            Refused,
-            "",
-            "fault 1048576 limit\n",
-        ),
-        (
-            &[("((((((((", 131072), ("(", 1)],
-            Refused,
-            "",
-            "fault 1048576 limit\n",
-        ),
-    ];
-    expect_long_cases(&rt, rt.alloc(), cases)
+    expect_long_rows(&rt, rt.alloc(), ONE_BYTE_MORE)
 }
 
 // A text with a part for each number below `count`.
@@ -371,30 +130,54 @@ fn counted(
 fn the_greatest_number_of_symbols(rt: HostRuntime) -> Result<(), Fail> {
     let alloc = rt.alloc();
     let text = counted(alloc, "symbol s/0", ", s", "/0", ".", 4095)?;
-    expect_text(&rt, alloc, &text, Done, "", "")
+    expect_outcome(&rt, alloc, text.as_bytes(), "", "4,096 symbols")
 }
 
 #[test]
 fn one_symbol_more(rt: HostRuntime) -> Result<(), Fail> {
     let alloc = rt.alloc();
     let text = counted(alloc, "symbol s/0", ", s", "/0", ".", 4096)?;
-    expect_text(&rt, alloc, &text, Refused, "", "fault 35757 limit\n")
+    expect_outcome(
+        &rt,
+        alloc,
+        text.as_bytes(),
+        "fault 35757 limit",
+        "4,097 symbols",
+    )
 }
 
 #[test]
 fn predicates_of_one_file(rt: HostRuntime) -> Result<(), Fail> {
     let alloc = rt.alloc();
     let most = counted(alloc, "", "pred p", " := true. ", "", 1024)?;
-    expect_text(&rt, alloc, &most, Refused, "", "fault 0 notbuilt\n")?;
+    expect_outcome(
+        &rt,
+        alloc,
+        most.as_bytes(),
+        "fault 0 notbuilt",
+        "1,024 predicates",
+    )?;
     let more = counted(alloc, "", "pred p", " := true. ", "", 1025)?;
-    expect_text(&rt, alloc, &more, Refused, "", "fault 19375 limit\n")
+    expect_outcome(
+        &rt,
+        alloc,
+        more.as_bytes(),
+        "fault 19375 limit",
+        "1,025 predicates",
+    )
 }
 
 #[test]
 fn variables_behind_one_quantifier(rt: HostRuntime) -> Result<(), Fail> {
     let alloc = rt.alloc();
     let most = counted(alloc, "solve exists", " X", "", ": X0 = X999.", 1000)?;
-    expect_text(&rt, alloc, &most, Done, "1 true\n", "")?;
+    expect_outcome(&rt, alloc, most.as_bytes(), "1 true", "1,000 variables")?;
     let more = counted(alloc, "solve exists", " X", "", ": X0 = X999.", 1001)?;
-    expect_text(&rt, alloc, &more, Refused, "", "fault 4903 limit\n")
+    expect_outcome(
+        &rt,
+        alloc,
+        more.as_bytes(),
+        "fault 4903 limit",
+        "1,001 variables",
+    )
 }

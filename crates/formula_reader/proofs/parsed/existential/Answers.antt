@@ -13,9 +13,9 @@ pub loop-variable-init : goal.loop-variable-init
 loop-variable-init c = record {
   next = tt;
   finite = tt;
-  form = ap (λ i. behind form.exists (iter_rest (rev_source i)) (form_of c.args.inner.formula)) c.into_iter-variable-iterator.ensures.into_iter_gives
-      ∙ ap (λ i. behind form.exists (iter_rest i) (form_of c.args.inner.formula)) c.rev-variable-items.ensures.source
-      ∙ ap (λ l. behind form.exists l (form_of c.args.inner.formula)) c.iter.ensures.rest;
+  form = ap (λ i. behind form.exists (iter_rest (rev_source i)) (form_of c.args.inner)) c.into_iter-variable-iterator.ensures.into_iter_gives
+      ∙ ap (λ i. behind form.exists (iter_rest i) (form_of c.args.inner)) c.rev-variable-items.ensures.source
+      ∙ ap (λ l. behind form.exists l (form_of c.args.inner)) c.iter.ensures.rest;
 }
 
 pub loop-variable-preserved : goal.loop-variable-preserved

@@ -13,9 +13,9 @@ pub loop-variable-init : goal.loop-variable-init
 loop-variable-init c = record {
   next = tt;
   finite = tt;
-  form = ap (λ i. behind form.forall (iter_rest (rev_source i)) (form_of c.args.inner.formula)) c.into_iter-variable-iterator.ensures.into_iter_gives
-      ∙ ap (λ i. behind form.forall (iter_rest i) (form_of c.args.inner.formula)) c.rev-variable-items.ensures.source
-      ∙ ap (λ l. behind form.forall l (form_of c.args.inner.formula)) c.iter.ensures.rest;
+  form = ap (λ i. behind form.forall (iter_rest (rev_source i)) (form_of c.args.inner)) c.into_iter-variable-iterator.ensures.into_iter_gives
+      ∙ ap (λ i. behind form.forall (iter_rest i) (form_of c.args.inner)) c.rev-variable-items.ensures.source
+      ∙ ap (λ l. behind form.forall l (form_of c.args.inner)) c.iter.ensures.rest;
 }
 
 pub loop-variable-preserved : goal.loop-variable-preserved
@@ -29,4 +29,4 @@ loop-variable-preserved c = record {
 
 pub returns-clause-formula : goal.returns-clause-formula
 returns-clause-formula c =
-    ap form_of c.other.ensures.formula ∙ sym (ap (λ l. behind form.forall l (form_of c.loop-variable.formula)) (nil_from_length _ c.in-None.ensures.steps.0)) ∙ c.loop-variable.invariant.form
+    sym (ap (λ l. behind form.forall l (form_of c.loop-variable.formula)) (nil_from_length _ c.in-None.ensures.steps.0)) ∙ c.loop-variable.invariant.form

@@ -10,5 +10,5 @@ abbrev pub invariant-loop-variable : goal.invariant-loop-variable
 invariant-loop-variable l = record {
   next : (goal.iterator-loop-variable).can_next l.variable-iterator;
   finite : (goal.iterator-loop-variable).is_finite l.variable-iterator;
-  form : behind form.forall (iter_rest (rev_source l.variable-iterator)) (form_of l.formula) ≡ behind form.forall l.variables (form_of l.fn.inner.formula);
+  form : behind form.forall (iter_rest (rev_source l.variable-iterator)) (form_of l.formula) ≡ behind form.forall l.variables (form_of l.fn.inner);
 }

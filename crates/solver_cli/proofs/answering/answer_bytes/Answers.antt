@@ -1,14 +1,14 @@
 use Rattle.std.proofs.Common.{◌≡◌, ◌+◌, length, arith}
 use Rattle.solver_cli.specs.Answered.{Answered}
 use Rattle.solver_cli.proofs.Answers.{begun, stepped, ended, was_cut}
-use Rattle.solver_cli.proofs.Asked.{has_equations}
+use Rattle.solver_cli.proofs.Asked.{are_closed}
 use Rattle.solver_cli.proofs.answering.answer_bytes.Goals as goal
 
 pub statements-init : goal.statements-init
 statements-init g c = begun g.O.Sink.writes g.O.Sink.taken g.O.Sink.faults c.args.bytes.now c.in-Ok.file c.args.out.now c.in-Ok.ensures.file
 
-pub answer-requires-clause-equations : goal.answer-requires-clause-equations
-answer-requires-clause-equations g c = has_equations c.args.bytes.now c.in-Ok.file c.in-Ok.ensures.file c.in-Ok.ensures.well_formed
+pub answer-requires-clause-closed : goal.answer-requires-clause-closed
+answer-requires-clause-closed g c = are_closed c.args.bytes.now c.in-Ok.file c.in-Ok.ensures.file c.in-Ok.ensures.well_formed
 
 pub returns-in-Err-clause-cut : goal.returns-in-Err-clause-cut
 returns-in-Err-clause-cut g c is =

@@ -1,9 +1,6 @@
-use Rattle.step_facts.proofs.ClearedMeans.{cleared_is_solved, cleared_means}
+use Rattle.step_facts.proofs.ClearedMeans.{cleared_means}
 use Rattle.step_facts.proofs.Finished.{finished_fails}
 use Rattle.step_facts.proofs.laws.clear_laws.Goals as goal
-
-pub returns-clause-solved : goal.returns-clause-solved
-returns-clause-solved c = cleared_is_solved
 
 pub returns-clause-finished : goal.returns-clause-finished
 returns-clause-finished c = finished_fails

@@ -50,7 +50,7 @@ conjunction-more-smaller t c =
 pub conjunction-more-preserved : goal.conjunction-more-preserved
 conjunction-more-preserved t c = record {
   read = next_conjunct c.more.invariant.read (marks k.Amp (sym c.more-test.ensures) c.in_ok-join.ensures.takes) c.in_ok-join.ensures.keeps c.in_ok-right.ensures.reads
-      c.in_ok-left-2.ensures.formula c.in_ok-left-2.ensures.shape;
+      c.in_ok-left-2.ensures.formula;
   faults = λ s. c.more.invariant.faults s ∙ and_taken c.args.signature.now c.more.self c.join.new.self (place_of c.args.place) s (sym c.more-test.ensures) c.in_ok-join.ensures.takes c.in_ok-join.ensures.joints ∙ c.in_ok-right.ensures.faults (m.and_tail (place_of c.args.place) ∷ s);
   bytes = c.in_ok-right.ensures.bytes ∙ c.in_ok-join.ensures.takes.bytes ∙ c.more.invariant.bytes;
   on = omega (arith, c.more.invariant.on, c.in_ok-join.ensures.on, c.in_ok-right.ensures.on);
@@ -105,7 +105,7 @@ disjunction-more-smaller t c =
 pub disjunction-more-preserved : goal.disjunction-more-preserved
 disjunction-more-preserved t c = record {
   read = next_disjunct c.more.invariant.read (marks k.Bar (sym c.more-test.ensures) c.in_ok-join.ensures.takes) c.in_ok-join.ensures.keeps c.in_ok-right.ensures.reads
-      c.in_ok-left-2.ensures.formula c.in_ok-left-2.ensures.shape;
+      c.in_ok-left-2.ensures.formula;
   faults = λ s. c.more.invariant.faults s ∙ or_taken c.args.signature.now c.more.self c.join.new.self (place_of c.args.place) s (sym c.more-test.ensures) c.in_ok-join.ensures.takes c.in_ok-join.ensures.joints ∙ c.in_ok-right.ensures.faults (m.or_tail (place_of c.args.place) ∷ s);
   bytes = c.in_ok-right.ensures.bytes ∙ c.in_ok-join.ensures.takes.bytes ∙ c.more.invariant.bytes;
   on = omega (arith, c.more.invariant.on, c.in_ok-join.ensures.on, c.in_ok-right.ensures.on);
@@ -152,8 +152,8 @@ formula-returns-clause-faults t c = λ s.
 
 pub formula-returns-clause-reads : goal.formula-returns-clause-reads
 formula-returns-clause-reads t c =
-    if_made _ _ _ _ c.joined.ensures.formula c.joined.ensures.shape
-    (λ q f e. both_equal c.args.signature.now c.in_ok-left.ensures.reads (marks k.DoubleArrow (sym c.if-not-sees.ensures) c.in_ok-take.ensures.takes) c.in_ok-take.ensures.keeps c.in_ok-right.ensures.reads f e)
+    if_made _ _ _ c.joined.ensures.formula
+    (λ q f. both_equal c.args.signature.now c.in_ok-left.ensures.reads (marks k.DoubleArrow (sym c.if-not-sees.ensures) c.in_ok-take.ensures.takes) c.in_ok-take.ensures.keeps c.in_ok-right.ensures.reads f)
 
 pub implication-returns-in_err-left-clause-faults : goal.implication-returns-in_err-left-clause-faults
 implication-returns-in_err-left-clause-faults t c = λ s.
@@ -189,9 +189,9 @@ implication-returns-clause-faults t c = λ s.
 
 pub implication-returns-clause-reads : goal.implication-returns-clause-reads
 implication-returns-clause-reads t c =
-    if_made _ _ _ _ c.joined.ensures.formula c.joined.ensures.shape
-    (λ q f e. both_imply c.args.signature.now c.in_ok-left.ensures.reads (marks k.Arrow (sym c.if-not-sees.ensures) c.in_ok-inner.ensures.takes) c.in_ok-inner.ensures.keeps
-    (under g.implication c.args.signature.now (place_of c.in_ok-inner.inner) (place_of c.args.place) c.in_ok-inner.ensures.inner.0 c.in_ok-right.ensures.reads) f e)
+    if_made _ _ _ c.joined.ensures.formula
+    (λ q f. both_imply c.args.signature.now c.in_ok-left.ensures.reads (marks k.Arrow (sym c.if-not-sees.ensures) c.in_ok-inner.ensures.takes) c.in_ok-inner.ensures.keeps
+    (under g.implication c.args.signature.now (place_of c.in_ok-inner.inner) (place_of c.args.place) c.in_ok-inner.ensures.inner.0 c.in_ok-right.ensures.reads) f)
 
 pub unary-unary-requires : goal.unary-unary-requires
 unary-unary-requires t c =
@@ -200,23 +200,23 @@ unary-unary-requires t c =
 
 pub unary-returns-in_ok-unary-clause-reads : goal.unary-returns-in_ok-unary-clause-reads
 unary-returns-in_ok-unary-clause-reads t c =
-    if_made _ _ _ _ c.negated.ensures.formula c.negated.ensures.shape
-    (λ q f e. not_read c.args.signature.now (marks k.Tilde (sym c.if-sees.ensures) c.in_ok-inner.ensures.takes) c.in_ok-inner.ensures.keeps
-    (under g.unary c.args.signature.now (place_of c.in_ok-inner.inner) (place_of c.args.place) c.in_ok-inner.ensures.inner.0 c.in_ok-unary.ensures.reads) f e)
+    if_made _ _ _ c.negated.ensures.formula
+    (λ q f. not_read c.args.signature.now (marks k.Tilde (sym c.if-sees.ensures) c.in_ok-inner.ensures.takes) c.in_ok-inner.ensures.keeps
+    (under g.unary c.args.signature.now (place_of c.in_ok-inner.inner) (place_of c.args.place) c.in_ok-inner.ensures.inner.0 c.in_ok-unary.ensures.reads) f)
 
 pub unary-returns-in_ok-variables-clause-reads : goal.unary-returns-in_ok-variables-clause-reads
 unary-returns-in_ok-variables-clause-reads t c =
-    if_made _ _ _ _ c.existential.ensures.formula c.existential.ensures.shape
-    (λ q f e. exists_read (marks k.«Exists» (sym c.if-sees-2.ensures) c.in_ok-inner-2.ensures.takes) c.in_ok-inner-2.ensures.keeps
+    if_made _ _ _ c.existential.ensures.formula
+    (λ q f. exists_read (marks k.«Exists» (sym c.if-sees-2.ensures) c.in_ok-inner-2.ensures.takes) c.in_ok-inner-2.ensures.keeps
     (quantified_under c.args.signature.now (place_of c.in_ok-inner-2.inner) (place_of c.args.place) c.in_ok-inner-2.ensures.inner.0 c.in_ok-variables.ensures.reads)
-    (f ∙ ap (λ l. behind form.exists l (form_of c.in_ok-variables.body.formula)) c.deref.ensures.value) e)
+    (f ∙ ap (λ l. behind form.exists l (form_of c.in_ok-variables.body)) c.deref.ensures.value))
 
 pub unary-returns-in_ok-variables-2-clause-reads : goal.unary-returns-in_ok-variables-2-clause-reads
 unary-returns-in_ok-variables-2-clause-reads t c =
-    if_made _ _ _ _ c.universal.ensures.formula c.universal.ensures.shape
-    (λ q f e. forall_read (marks k.Forall (sym c.if-sees-3.ensures) c.in_ok-inner-3.ensures.takes) c.in_ok-inner-3.ensures.keeps
+    if_made _ _ _ c.universal.ensures.formula
+    (λ q f. forall_read (marks k.Forall (sym c.if-sees-3.ensures) c.in_ok-inner-3.ensures.takes) c.in_ok-inner-3.ensures.keeps
     (quantified_under c.args.signature.now (place_of c.in_ok-inner-3.inner) (place_of c.args.place) c.in_ok-inner-3.ensures.inner.0 c.in_ok-variables-2.ensures.reads)
-    (f ∙ ap (λ l. behind form.forall l (form_of c.in_ok-variables-2.body.formula)) c.deref-then-sees-3.ensures.value) e)
+    (f ∙ ap (λ l. behind form.forall l (form_of c.in_ok-variables-2.body)) c.deref-then-sees-3.ensures.value))
 
 pub grouped-formula-requires : goal.grouped-formula-requires
 grouped-formula-requires t c =
@@ -226,7 +226,7 @@ grouped-formula-requires t c =
 pub grouped-returns-clause-reads : goal.grouped-returns-clause-reads
 grouped-returns-clause-reads t c =
     group_read c.args.signature.now (marks k.LeftParen c.requires.starts c.in_ok-inner.ensures.takes) c.in_ok-inner.ensures.keeps
-    (under g.formula c.args.signature.now (place_of c.in_ok-inner.inner) (place_of c.args.place) c.in_ok-inner.ensures.inner.0 c.in_ok-formula.ensures.reads) c.in_ok-expect.ensures.reads c.in_ok-expect.ensures.keeps refl c.grouped_shape.ensures
+    (under g.formula c.args.signature.now (place_of c.in_ok-inner.inner) (place_of c.args.place) c.in_ok-inner.ensures.inner.0 c.in_ok-formula.ensures.reads) c.in_ok-expect.ensures.reads c.in_ok-expect.ensures.keeps refl
 
 pub quantified-more-init : goal.quantified-more-init
 quantified-more-init t c =

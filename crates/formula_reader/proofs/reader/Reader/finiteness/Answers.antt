@@ -1,6 +1,6 @@
 use Rattle.std.proofs.Common.{refl, ap, subst, ◌∙◌}
 use Rattle.formula_ast.proofs.Ties.{finite_form}
-use Rattle.formula_ast.specs.Forms.{form_of}
+use Rattle.formula_ast.specs.declared.formula.Formula.TheVariants as formula
 use Rattle.formula_ast.specs.declared.token.TokenKind.TheVariants as k
 use Rattle.formula_grammar.specs.Grammar as g
 use Rattle.formula_grammar.specs.Written.{finite}
@@ -17,8 +17,8 @@ returns-clause-reads c =
     let taken = c.in_ok-take.ensures.keeps in
     let closed = c.in_ok-expect.ensures.keeps in
     reads_wrapped c.args.signature.now (texts_of c.args.place.bound.now) (λ w. finite w) (λ w. refl) (λ w. refl)
-    c.args.self.now c.opening.new.self c.term.new.self c.expect.new.self t c.other.result
-    (λ names w is. ((t, ap form_of c.other.ensures.formula ∙ finite_form t, is), c.other.ensures.shape))
+    c.args.self.now c.opening.new.self c.term.new.self c.expect.new.self t (formula.Finite t)
+    (λ names w is. (t, finite_form t, is))
     (λ w s d. g.is_finite (marks k.Finite c.requires.starts c.in_ok-take.ensures.takes _ (c.in_ok-inner.ensures.reads _ d)))
     (opened.names ∙ taken.names) (opened.loose ∙ taken.loose)
     (subst (λ bound. ReadsTerm c.args.signature.now bound c.opening.new.self c.term.new.self t) (ap (λ p. p.bound) c.in_ok-inner.ensures.inner.0) c.in_ok-term.ensures.reads)

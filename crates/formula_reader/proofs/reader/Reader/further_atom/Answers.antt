@@ -19,4 +19,4 @@ returns-clause-reads c =
     (text_ahead c.args.self.now.bytes (left_of c.args.self.now)) c.in_ok-further.field-0 c.in_ok-arguments.arguments
     word read.keeps.names read.keeps.loose c.in_ok-arguments.ensures.reads read.index)
     (λ d s e. g.is_further_atom refl (word _ (c.in_ok-arguments.ensures.reads.reads _ e)))
-    c.in_ok-comparison.ensures.reads c.compared.ensures.formula c.compared.ensures.shape
+    c.in_ok-comparison.ensures.reads c.compared.ensures

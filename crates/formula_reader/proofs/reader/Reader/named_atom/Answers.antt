@@ -1,7 +1,7 @@
 use Rattle.std.proofs.Common.{[], ◌∷◌, refl, sym, ap, ◌∙◌}
 use Rattle.tree_model.specs.declared.tree.Symbol.TheVariants.{Named}
 use Rattle.formula_ast.proofs.Ties.{call_form}
-use Rattle.formula_ast.specs.Forms.{form_of}
+use Rattle.formula_ast.specs.declared.formula.Formula.TheVariants as formula
 use Rattle.formula_ast.specs.declared.token.TokenKind.TheVariants as k
 use Rattle.formula_ast.specs.declared.term.Term.TheVariants as term
 use Rattle.formula_grammar.specs.Grammar as g
@@ -58,7 +58,7 @@ returns-in_ok-comparison-clause-reads c =
     (λ d s e. g.is_named_atom refl (word _ (c.in_ok-arguments.ensures.reads.reads _ (g.some_tail e))))
     (reads_behind σ bound c.arguments.new.self c.complain.new.self c.comparison.new.self c.in_ok-comparison.field-0
     (ap words_left c.complain.ensures) (ap (λ i. i.names) c.complain.ensures) (ap (λ i. i.loose) c.complain.ensures) c.in_ok-comparison.ensures.reads)
-    c.compared.ensures.formula c.compared.ensures.shape
+    c.compared.ensures
 
 pub returns-else-sees_comparison-clause-faults : goal.returns-else-sees_comparison-clause-faults
 returns-else-sees_comparison-clause-faults c = λ s.
@@ -72,8 +72,8 @@ returns-else-sees_comparison-clause-reads c =
     let read = c.in_ok-name.ensures in
     let told = c.complain-else-sees_comparison.ensures in
     reads_call c.args.signature.now (texts_of c.args.place.bound.now) c.args.self.now c.atom_head.new.self c.arguments.new.self c.complain-else-sees_comparison.new.self
-    (text_ahead c.args.self.now.bytes (left_of c.args.self.now)) c.place_in-number.result c.in_ok-arguments.arguments c.other.result
+    (text_ahead c.args.self.now.bytes (left_of c.args.self.now)) c.place_in-number.result c.in_ok-arguments.arguments (formula.Call c.place_in-number.result c.in_ok-arguments.arguments)
     (words k.Name c.requires.starts read.takes) read.keeps.names read.keeps.loose c.in_ok-arguments.ensures.reads
     (ap words_left told) (ap (λ i. i.names) told) (ap (λ i. i.loose) told)
-    (ap form_of c.other.ensures.formula ∙ call_form c.place_in-number.result c.in_ok-arguments.arguments) c.other.ensures.shape
+    (call_form c.place_in-number.result c.in_ok-arguments.arguments)
     (c.place_in-number.ensures ∙ ap (place_in c.args.signature.now) read.name)

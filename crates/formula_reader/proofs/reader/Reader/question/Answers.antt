@@ -1,4 +1,4 @@
-use Rattle.std.proofs.Common.{sym, ap, ◌∙◌, refl}
+use Rattle.std.proofs.Common.{not, ap, ◌∙◌, refl}
 use Rattle.formula_ast.specs.declared.token.TokenKind.TheVariants as k
 use Rattle.formula_reader.specs.Input.{Input, words_left}
 use Rattle.formula_reader.proofs.Steps.{marks}
@@ -11,4 +11,4 @@ returns-clause-reads c =
     question_read c.expect.new.self _ _ _ c.in_ok-body.body _ _ (marks k.Solve c.requires c.in_ok-begin.ensures.takes) c.in_ok-begin.ensures.names c.in_ok-begin.ensures.loose
     c.in_ok-body.ensures.reads c.in_ok-expect.ensures.reads (ap words_left c.self.view_is)
     (c.in_ok-names.ensures.names ∙ c.replace.ensures.value ∙ ap (λ (i : Input). i.names) c.self.view_is ∙ c.in_ok-expect.ensures.keeps.names) refl refl refl c.in_ok-push.ensures.ok
-    (λ b. let a = c.is_answered-built.ensures.0 b in (a.0, sym loose ∙ a.1), λ b. c.is_answered-built.ensures.1 (b.0, loose ∙ b.1))
+    (ap not loose)

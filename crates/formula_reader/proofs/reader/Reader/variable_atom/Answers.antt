@@ -17,4 +17,4 @@ returns-clause-reads c =
     (reads_variable c.args.signature.now (texts_of c.args.place.bound.now) c.args.self.now c.variable.new.self (text_ahead c.args.self.now.bytes (left_of c.args.self.now))
     c.in_ok-variable.field-0 word read.names read.loose read.number)
     (λ d s e. g.is_variable_atom refl (word _ e))
-    c.in_ok-comparison.ensures.reads c.compared.ensures.formula c.compared.ensures.shape
+    c.in_ok-comparison.ensures.reads c.compared.ensures

@@ -1,7 +1,7 @@
 use Rattle.std.proofs.Common.{refl, ap, subst, ◌∙◌}
 use Rattle.formula_ast.proofs.Ties.{win_form}
 use Rattle.formula_ast.specs.Forms as form
-use Rattle.formula_ast.specs.Forms.{form_of}
+use Rattle.formula_ast.specs.declared.formula.Formula.TheVariants as formula
 use Rattle.formula_ast.specs.declared.token.TokenKind.TheVariants as k
 use Rattle.formula_grammar.specs.Grammar as g
 use Rattle.formula_grammar.specs.Meaning.{place_in}
@@ -26,15 +26,12 @@ returns-clause-reads c =
     let second = c.in_ok-expect-2.ensures.keeps in
     let closed = c.in_ok-expect-3.ensures.keeps in
     reads_wrapped σ (texts_of c.args.place.bound.now) (λ w. win played.0 counted.0 w) (λ w. refl) (λ w. refl)
-    c.args.self.now c.expect-2.new.self c.term.new.self c.expect-3.new.self t c.other.result
+    c.args.self.now c.expect-2.new.self c.term.new.self c.expect-3.new.self t (formula.Win c.in_ok-predicate.predicate c.in_ok-moves.moves t)
     (λ names w is. (
-      (
-        t,
-        ap form_of c.other.ensures.formula ∙ win_form c.in_ok-predicate.predicate c.in_ok-moves.moves t
-            ∙ ap (λ p. form.win p c.in_ok-moves.moves t) played.2 ∙ ap (λ n. form.win (place_in σ played.0) n t) counted.2,
-        is,
-      ),
-      c.other.ensures.shape,
+      t,
+      win_form c.in_ok-predicate.predicate c.in_ok-moves.moves t ∙ ap (λ p. form.win p c.in_ok-moves.moves t) played.2
+          ∙ ap (λ n. form.win (place_in σ played.0) n t) counted.2,
+      is,
     ))
     (λ w s d. g.is_win (marks k.Win c.requires.starts c.in_ok-take.ensures.takes _ (c.in_ok-inner.ensures.reads _ (played.1 _
     (c.in_ok-expect.ensures.reads _ (counted.1 _ (c.in_ok-expect-2.ensures.reads _ d)))))))

@@ -1,3 +1,0 @@
-pub mod Arena
-pub mod Classes
-pub mod Questions
