@@ -1,1 +1,3 @@
+pub mod Grouping
+pub mod Keeping
 pub mod Numbers
