@@ -1,5 +1,11 @@
+pub mod Filtered
 pub mod Finishes
+pub mod GroupedCube
 pub mod IsOrdered
+pub mod KeptAtoms
+pub mod NewNumbers
 pub mod Outcomes
+pub mod Regrouped
+pub mod SettledParts
 pub mod Taken
 pub mod WithoutIdle

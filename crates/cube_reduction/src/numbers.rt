@@ -25,6 +25,7 @@ impl Numbers {
         scope: usize,
         order: &[usize],
     ) -> Result<Numbers, NoMemory>
+        requires low { free ≤ scope }
         requires distinct { IsDistinct order.now }
         requires within { All (λ v. (free ≤ v) × (v < scope)) order.now }
         ensures { IfOk result (λ numbers. number_in numbers.table.items numbers.behind ≡ new_number free scope order.now) }

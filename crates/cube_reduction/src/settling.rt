@@ -22,11 +22,15 @@ fn settled(alloc: Global, over: &Over, part: &Part) -> Result<Option<Part>, NoMe
     let Some(count) = over.count.checked_add(part.inner) else {
         return Err(NoMemory);
     };
-    match over.added(alloc, part.inner, &part.basic)? {
-        Some(added) => Ok(Some(Part {
-            inner: part.inner,
-            basic: pruned(alloc, over.count, count, &added)?,
-        })),
+    let found = over.added(alloc, part.inner, &part.basic)?;
+    match found {
+        Some(added) => {
+            let basic = pruned(alloc, over.count, count, &added)?;
+            Ok(Some(Part {
+                inner: part.inner,
+                basic,
+            }))
+        }
         None => Ok(None),
     }
 }
@@ -40,7 +44,8 @@ pub(crate) fn all_settled(alloc: Global, over: &Over, parts: &[Part]) -> Result<
 {
     let mut all = Parts::new(alloc);
     for part in parts {
-        if let Some(new) = settled(alloc, over, part)? {
+        let found = settled(alloc, over, part)?;
+        if let Some(new) = found {
             all.push(new)?;
         }
     }
@@ -61,7 +66,8 @@ pub(crate) fn settled_unless_implied(
 {
     let mut all = Parts::new(alloc);
     for part in parts {
-        if let Some(new) = settled(alloc, over, part)? {
+        let found = settled(alloc, over, part)?;
+        if let Some(new) = found {
             if new.basic.len() == 0 {
                 return Ok(None);
             }
