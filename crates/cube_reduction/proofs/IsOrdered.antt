@@ -254,5 +254,6 @@ module _ (raw cube : Cube) (idle : List ℕ) (over : IsWellNumbered raw) (g : Is
           | inr le ↦
               let e : new_number cube.free (cube.free + cube.outer) (order ++ idle) v ≡ cube.free + length order + length idle + (v - (cube.free + cube.outer)) =
               last_high cube idle [] bare right cleared v le in
-              omega (arith, e, w)
+              let low : v - (cube.free + cube.outer) < part.inner = omega (arith, le, w) in
+              rw e (omega (arith, low))
         ])

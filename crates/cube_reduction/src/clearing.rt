@@ -3,21 +3,17 @@
 ghost use Rattle.std.specs.Prelude.{◌≡◌, ◌+◌, ◌<◌, ◌≤◌, ◌++◌, ◌↔◌, [], ℕ, map, length, IfOk, IsTrue, All, Contains};
 ghost use Rattle.lists.specs.Distinct.{IsDistinct};
 ghost use Rattle.flat_form.specs.declared.atom.Flat.{Flat};
-ghost use Rattle.flat_form.specs.declared.cube.Part.{Part};
-ghost use Rattle.flat_form.specs.Numbering.{PartOver};
 ghost use Rattle.flat_form.specs.Orders.{new_number, renumbered_part};
 ghost use Rattle.flat_form.specs.Solved.{variable_of, Ascends};
-ghost use Rattle.flat_form.specs.Steps.{Mentions, WithoutIdle, Finishes, Settles, IsCleared};
-ghost use Rattle.numbering.specs.Inner.{IsReached};
+ghost use Rattle.flat_form.specs.Steps.{Mentions, WithoutIdle, Settles, IsCleared};
 ghost use Rattle.cube_reduction.specs.Ordering.{WasGrouped, IsOrdered};
 
 use crate::numbers::Numbers;
 use crate::over::{Over, copy_onto};
-use crate::sameness::Same;
 use crate::settling::all_settled;
 use flat_form::{Basic, Cube, Flat, Part, Parts, variable};
 use lists::{Copied, List, NoMemory};
-use numbering::{met, number_all, number_inner};
+use numbering::{finish, met, number_all};
 use reachability::mentions;
 use std::alloc::Global;
 
@@ -58,38 +54,10 @@ fn busy(alloc: Global, idle: &[usize], parts: &[Part]) -> Result<Parts, NoMemory
     Ok(busy)
 }
 
-// Whether the part is one of these.
-fn is_among(parts: &[Part], part: &Part) -> bool
-    ensures { IsTrue result ↔ Contains parts.now part.now }
-{
-    for other in parts {
-        if other.is_same(part) {
-            return true;
-        }
-    }
-    false
-}
-
-// The parts with their inner variables numbered by first occurrence, each of them once.
-fn finished(alloc: Global, m: usize, parts: &[Part]) -> Result<Parts, NoMemory>
-    requires ascending { All (λ (part : Part). Ascends part.basic) parts.now }
-    requires over { All (PartOver m) parts.now }
-    ensures { IfOk result (λ out. All (λ (part : Part). IsReached m part.basic) parts.now → Finishes m [] parts.now out) }
-{
-    let mut out = Parts::new(alloc);
-    for part in parts {
-        let new = number_inner(alloc, m, part)?;
-        if !is_among(out.as_slice(), &new) {
-            out.push(new)?;
-        }
-    }
-    Ok(out)
-}
-
 // A basic without idle variables, and the outer variables in their new order.
 #[derive(Debug, Drop)]
 pub(crate) struct Ordered {
-    pub(crate) order: Vec<usize>,
+    pub(crate) order: List<usize>,
     pub(crate) basic: Basic,
 }
 
@@ -117,7 +85,7 @@ fn in_order(
 ) -> Result<Ordered, NoMemory>
     requires scope { scope ≡ mid.now.free + mid.now.outer }
     requires grouped { WasGrouped mid.now idle.now }
-    ensures { IfOk result (λ found. IsOrdered mid.now idle.now found.order.items found.basic) }
+    ensures { IfOk result (λ found. IsOrdered mid.now idle.now found.order found.basic) }
 {
     let rest = atoms_without(alloc, idle, mid.basic.as_slice())?;
     let order = met(alloc, mid.free, scope, &rest)?;
@@ -134,6 +102,7 @@ fn renumbered(
     idle: &[usize],
     parts: &[Part],
 ) -> Result<Parts, NoMemory>
+    requires low { free ≤ scope }
     requires distinct { IsDistinct (order.now ++ idle.now) }
     requires within { All (λ v. (free ≤ v) × (v < scope)) (order.now ++ idle.now) }
     ensures { IfOk result (λ new. new ≡ map (renumbered_part (new_number free scope (order.now ++ idle.now)) (length idle.now)) parts.now) }
@@ -149,8 +118,8 @@ fn renumbered(
 pub(crate) fn cleared(
     alloc: Global,
     mid: &Cube,
-    idle: &List<usize>,
-    first: &Parts,
+    idle: &[usize],
+    first: &[Part],
 ) -> Result<Cube, NoMemory>
     requires grouped { WasGrouped mid.now idle.now }
     requires settled { Settles (mid.now.free + mid.now.outer) mid.now.basic mid.now.parts first.now }
@@ -159,8 +128,8 @@ pub(crate) fn cleared(
     let Some(scope) = mid.free.checked_add(mid.outer) else {
         return Err(NoMemory);
     };
-    let busy = busy(alloc, idle.as_slice(), first.as_slice())?;
-    let Ordered { order, basic } = in_order(alloc, mid, scope, idle.as_slice())?;
+    let busy = busy(alloc, idle, first)?;
+    let Ordered { order, basic } = in_order(alloc, mid, scope, idle)?;
     let Some(count) = mid.free.checked_add(order.len()) else {
         return Err(NoMemory);
     };
@@ -169,12 +138,12 @@ pub(crate) fn cleared(
         mid.free,
         scope,
         order.as_slice(),
-        idle.as_slice(),
+        idle,
         busy.as_slice(),
     )?;
     let over = Over { count, base: basic };
     let second = all_settled(alloc, &over, moved.as_slice())?;
-    let parts = finished(alloc, count, second.as_slice())?;
+    let parts = finish(alloc, count, second.as_slice())?;
     Ok(Cube {
         free: mid.free,
         outer: order.len(),

@@ -41,7 +41,7 @@ fn eliminated(alloc: Global, grouped: Grouped) -> Result<Option<Cube>, NoMemory>
         basic: over.base,
         parts: mid.parts,
     };
-    let cube = cleared(alloc, &mid, &idle, &first)?;
+    let cube = cleared(alloc, &mid, idle.as_slice(), first.as_slice())?;
     Ok(Some(cube))
 }
 
