@@ -1,8 +1,8 @@
 -- The order in which a cube's variables are grouped, and that the cube is then grouped.
 use Rattle.std.specs.Prelude.{Contains, All, ◌↔◌, ◌⊎◌}
 use Rattle.std.specs.List.Sorted.{IsStrictlyIncreasing}
-use Rattle.std.proofs.Common.{ℕ, ◌≡◌, ◌+◌, ◌<◌, ◌≤◌, List, [], ◌∷◌, ◌++◌, map, length, refl, sym, ap, ◌∙◌, subst, arith, inl, inr}
-use Rattle.std.proofs.lemmas.List.Elements.{Contains-append_left, Contains-append_right, Contains-append_cases}
+use Rattle.std.proofs.Common.{ℕ, ◌≡◌, ◌+◌, ◌<◌, ◌≤◌, List, [], ◌∷◌, ◌++◌, map, get_or, length, refl, sym, ap, ◌∙◌, subst, arith, inl, inr}
+use Rattle.std.proofs.lemmas.List.Elements.{Contains-append_left, Contains-append_right, Contains-append_cases, Contains-get_or}
 use Rattle.lists.specs.Distinct.{IsDistinct}
 use Rattle.flat_form.specs.declared.atom.Flat.{Flat}
 use Rattle.flat_form.specs.declared.cube.Cube.{Cube}
@@ -17,6 +17,7 @@ use Rattle.cube_facts.proofs.Places.{side}
 use Rattle.cube_facts.proofs.Variables.{own_variable, stands_tells}
 use Rattle.step_facts.proofs.NewNumbers.{distinct_increasing, distinct_both, front_number, number_behind}
 use Rattle.cube_reduction.specs.Grouping.{number_by, IsRegrouped}
+use Rattle.cube_reduction.proofs.Regrouped.{order_within}
 
 module _ (raw : Cube) (form : List Flat) (needed idle determined kept : List ℕ) (split : IsSplit raw.free raw.outer form needed idle determined)
     (up : IsStrictlyIncreasing kept)
@@ -95,3 +96,44 @@ module _ (raw : Cube) (form : List Flat) (needed idle determined kept : List ℕ
       moved_is = same_taken _ _ is.moved (λ atom i. moves (variable_of atom) (low atom i)) is.moved_is;
       parts_are = is.parts_are;
     }
+
+-- what was lent and copied on the way
+pub order_here : (slice after order kept lent determined : List ℕ) → slice ≡ after → after ≡ order ++ lent → order ≡ kept → lent ≡ determined → slice ≡ kept ++ determined
+order_here slice after order kept lent determined a b c d = cc
+
+module _ (raw : Cube) (form : List Flat) (needed idle determined kept lent : List ℕ) (scope : ℕ) (split : IsSplit raw.free raw.outer form needed idle determined)
+    (scope_is : scope ≡ raw.free + raw.outer) (lent_is : lent ≡ determined) where
+  pub lent_low : All (λ v. v < scope) lent
+  lent_low = λ k d w.
+      let inside = subst (λ (z : List ℕ). Contains z (get_or lent k d)) lent_is (Contains-get_or lent k d w) in
+      let (a, b) = ((split.determined_is (get_or lent k d)).0 inside).0 in
+      omega (arith, b, scope_is)
+
+  module _ (up : IsStrictlyIncreasing kept) (is : (v : ℕ) → Contains kept v ↔ ((raw.free ≤ v) × (v < scope) × (¬ Contains lent v))) where
+    kept_here : (v : ℕ) → Contains kept v ↔ ((raw.free ≤ v) × (v < raw.free + raw.outer) × (¬ Contains determined v))
+    kept_here v = (
+      λ i. let (a, b, n) = (is v).0 i in (a, omega (arith, b, scope_is), λ d. n (subst (λ (z : List ℕ). Contains z v) (sym lent_is) d)),
+      λ (a, b, n). (is v).1 (a, omega (arith, b, scope_is), λ d. n (subst (λ (z : List ℕ). Contains z v) lent_is d)),
+    )
+
+    pub lent_distinct : (order : List ℕ) → order ≡ kept ++ determined → IsDistinct order
+    lent_distinct order e = subst (λ (z : List ℕ). IsDistinct z) (sym e) (order_distinct raw form needed idle determined kept split up kept_here)
+
+    pub lent_order : (order : List ℕ) → order ≡ kept ++ determined → (v : ℕ) → Contains order v ↔ IsOuter raw.free raw.outer v
+    lent_order order e = subst (λ (z : List ℕ). (v : ℕ) → Contains z v ↔ IsOuter raw.free raw.outer v) (sym e) (order_is raw form needed idle determined kept split up kept_here)
+
+    pub lent_within : (order : List ℕ) → order ≡ kept ++ determined → All (λ v. (raw.free ≤ v) × (v < scope)) order
+    lent_within order e = order_within order raw.free raw.outer scope (lent_order order e) scope_is
+
+    pub grouped_lent : BasicOver (raw.free + raw.outer) raw.basic → IsSolvedForm raw.basic form → (mid : Cube) (new_idle order again : List ℕ) (kept_size more : ℕ) (lent_idle : List ℕ)
+        (f : ℕ → ℕ) → order ≡ kept ++ determined → again ≡ kept ++ determined → kept_size ≡ length kept → more ≡ length lent → lent_idle ≡ idle
+        → f ≡ new_number raw.free scope order → IsRegrouped raw form again kept_size more mid → new_idle ≡ map f lent_idle → IsGrouped raw mid new_idle
+    grouped_lent over solved mid new_idle order again kept_size more lent_idle f order_e again_e size_e more_e idle_e f_e regrouped idle_are =
+        let one : IsRegrouped raw form (kept ++ determined) kept_size more mid = subst (λ (z : List ℕ). IsRegrouped raw form z kept_size more mid) again_e regrouped in
+        let two : IsRegrouped raw form (kept ++ determined) (length kept) more mid = subst (λ (z : ℕ). IsRegrouped raw form (kept ++ determined) z more mid) size_e one in
+        let three : IsRegrouped raw form (kept ++ determined) (length kept) (length determined) mid =
+          subst (λ (z : ℕ). IsRegrouped raw form (kept ++ determined) (length kept) z mid) (more_e ∙ ap length lent_is) two in
+        let by_scope : f ≡ number_by raw (kept ++ determined) =
+          f_e ∙ ap (λ (z : ℕ). new_number raw.free z order) scope_is ∙ ap (λ (z : List ℕ). number_by raw z) order_e in
+        grouped_is raw form needed idle determined kept split up kept_here over solved mid new_idle three
+        (idle_are ∙ ap (map f) idle_e ∙ ap (λ (g : ℕ → ℕ). map g idle) by_scope)

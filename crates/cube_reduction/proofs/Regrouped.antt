@@ -2,9 +2,9 @@
 use Rattle.std.specs.Prelude.{Contains, All, ltb, leb, ◌↔◌, ◌⊎◌}
 use Rattle.std.specs.List.{filter}
 use Rattle.std.specs.List.Sorted.{IsStrictlyIncreasing}
-use Rattle.std.proofs.Common.{ℕ, ◌≡◌, ◌+◌, ◌<◌, ◌≤◌, Bool, true, List, [], ◌∷◌, ◌++◌, map, length, refl, sym, ap, ◌∙◌, subst, arith, inl, inr}
+use Rattle.std.proofs.Common.{ℕ, ◌≡◌, ◌+◌, ◌<◌, ◌≤◌, Bool, true, List, [], ◌∷◌, ◌++◌, map, get_or, length, refl, sym, ap, ◌∙◌, subst, arith, inl, inr}
 use Rattle.std.proofs.lemmas.Bool.Decides.{nat_tests}
-use Rattle.std.proofs.lemmas.List.Elements.{Contains-append_left, Contains-append_right, Contains-append_cases, All-contains}
+use Rattle.std.proofs.lemmas.List.Elements.{Contains-append_left, Contains-append_right, Contains-append_cases, All-contains, Contains-get_or}
 use Rattle.lists.specs.Distinct.{IsDistinct}
 use Rattle.flat_form.specs.declared.atom.Flat.{Flat}
 use Rattle.flat_form.specs.declared.cube.Part.{Part}
@@ -83,3 +83,16 @@ module _ (raw : Cube) (form : List Flat) (order : List ℕ) (kept more : ℕ) (o
     moved_is = subst (λ (z : List Flat). IsRenumbering (number_by raw order) (λ atom. raw.free + kept ≤ number (variable_of atom)) form z) (sym moved_is) (moved_renumbered m m_is);
     parts_are = subst (λ (z : ℕ → ℕ). parts ≡ map (moved_into z more moved) raw.parts) f_is parts_are;
   }
+
+  -- the same of lists that were lent
+  pub regrouped_lent : (m : ℕ) (lent more_lent basic moved : List Flat) (lent_parts parts : List Part) (f : ℕ → ℕ) → m ≡ raw.free + kept → lent ≡ all → more_lent ≡ all
+      → lent_parts ≡ raw.parts → f ≡ number_by raw order → basic ≡ filter (λ atom. ltb (variable_of atom) m) lent → moved ≡ filter (λ atom. leb m (variable_of atom)) more_lent
+      → parts ≡ map (moved_into f more moved) lent_parts → IsRegrouped raw form order kept more (record { free = raw.free; outer = kept; basic = basic; parts = parts })
+  regrouped_lent m lent more_lent basic moved lent_parts parts f m_is lent_is more_is lent_parts_is f_is basic_is moved_is parts_are =
+      regrouped_is m basic moved parts f m_is f_is (basic_is ∙ ap (filter (λ atom. ltb (variable_of atom) m)) lent_is) (moved_is ∙ ap (filter (λ atom. leb m (variable_of atom))) more_is)
+      (parts_are ∙ ap (map (moved_into f more moved)) lent_parts_is)
+
+-- what an order has is within its bounds
+pub order_within : (order : List ℕ) (free outer scope : ℕ) → ((v : ℕ) → Contains order v ↔ IsOuter free outer v) → scope ≡ free + outer → All (λ v. (free ≤ v) × (v < scope)) order
+order_within order free outer scope full is = λ k d w.
+    let (a, b) = (full (get_or order k d)).0 (Contains-get_or order k d w) in (a, omega (arith, b, is))

@@ -1,5 +1,5 @@
 -- Parts over a base are settled one after the other.
-use Rattle.std.specs.Prelude.{Contains, All}
+use Rattle.std.specs.Prelude.{Contains, All, Option, Some, None, MatchOption}
 use Rattle.std.proofs.Common.{ℕ, ◌≡◌, ◌+◌, ◌<◌, ◌≤◌, List, [], ◌∷◌, ◌++◌, length, get_or, drop, sym, ap, ◌∙◌, subst, arith, append_assoc, append-nil, inl, inr}
 use Rattle.std.proofs.lemmas.List.{drop_more, drop_all}
 use Rattle.std.proofs.lemmas.List.Elements.{Contains-push_cases, All-append, All-contains}
@@ -10,6 +10,9 @@ use Rattle.flat_form.specs.Meanings.{HasNone}
 use Rattle.flat_form.specs.Numbering.{AtomOver, BasicOver, PartOver}
 use Rattle.flat_form.specs.Parts.{IsPruned}
 use Rattle.flat_form.specs.Steps.{SettlesTo, Settles, all_done, dropped, settled}
+use Rattle.flat_facts.proofs.Follows.{added_over}
+use Rattle.cube_facts.proofs.Raws.{basic_wider}
+use Rattle.basic_solver.specs.Outcomes.{IsOutcome}
 
 module _ (m : ℕ) (base : List Flat) where
   -- what the rest of the parts comes to, behind what the first i came to
@@ -45,3 +48,18 @@ none_empty_more all after new e some none part i = elim (Contains-push_cases all
   | inl old ↦ none part old
   | inr is ↦ subst (λ (z : Part). ¬ (z.basic ≡ [])) is some
 ]
+
+-- what an answer says in either case
+pub some_said : (r : Option Part) (x : Part) (P : Type 0) (Q : Part → Type 0) → r ≡ Some x → MatchOption r P Q → Q x
+some_said r x P Q e h = subst (λ (z : Option Part). MatchOption z P Q) e h
+
+pub none_said : (r : Option Part) (P : Type 0) (Q : Part → Type 0) → r ≡ None → MatchOption r P Q → P
+none_said r P Q e h = subst (λ (z : Option Part). MatchOption z P Q) e h
+
+-- what is added is over the variables of the base and the part
+pub added_is_over : (m inner count : ℕ) (base basic added : List Flat) (found : Option (List Flat)) → count ≡ m + inner → BasicOver m base → BasicOver (m + inner) basic
+    → found ≡ Some added → IsOutcome base (base ++ basic) found → BasicOver count added
+added_is_over m inner count base basic added found e base_over over is outcome =
+    let adds : IsAdded base (base ++ basic) added = subst (IsOutcome base (base ++ basic)) is outcome in
+    let both : BasicOver (m + inner) (base ++ basic) = All-append (AtomOver (m + inner)) base basic (basic_wider m (m + inner) (omega arith) base base_over) over in
+    subst (λ (z : ℕ). BasicOver z added) (sym e) (added_over (m + inner) base (base ++ basic) added both adds)

@@ -46,7 +46,8 @@ fn others(
     count: usize,
     xs: &[usize],
 ) -> Result<List<usize>, NoMemory>
-    requires { All (λ x. x < count) xs.now }
+    requires low { first ≤ count }
+    requires among { All (λ x. x < count) xs.now }
     ensures ascending { IfOk result IsStrictlyIncreasing }
     ensures is { IfOk result (λ kept. (v : ℕ) → Contains kept v ↔ ((first ≤ v) × (v < count) × (¬ Contains xs.now v))) }
 {

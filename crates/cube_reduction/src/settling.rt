@@ -45,8 +45,9 @@ pub(crate) fn all_settled(alloc: Global, over: &Over, parts: &[Part]) -> Result<
     let mut all = Parts::new(alloc);
     for part in parts {
         let found = settled(alloc, over, part)?;
-        if let Some(new) = found {
-            all.push(new)?;
+        match found {
+            Some(new) => all.push(new)?,
+            None => {}
         }
     }
     Ok(all)
@@ -67,11 +68,14 @@ pub(crate) fn settled_unless_implied(
     let mut all = Parts::new(alloc);
     for part in parts {
         let found = settled(alloc, over, part)?;
-        if let Some(new) = found {
-            if new.basic.len() == 0 {
-                return Ok(None);
+        match found {
+            Some(new) => {
+                if new.basic.len() == 0 {
+                    return Ok(None);
+                }
+                all.push(new)?;
             }
-            all.push(new)?;
+            None => {}
         }
     }
     Ok(Some(all))
