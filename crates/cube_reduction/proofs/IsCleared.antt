@@ -1,6 +1,6 @@
 -- What is made of a grouped cube with settled parts.
 use Rattle.std.specs.Prelude.{Contains, All}
-use Rattle.std.proofs.Common.{ℕ, ◌≡◌, ◌+◌, List, [], ◌++◌, map, length, refl, subst}
+use Rattle.std.proofs.Common.{ℕ, ◌≡◌, ◌+◌, List, [], ◌++◌, map, length, refl, sym, subst}
 use Rattle.std.proofs.lemmas.List.Elements.{All-contains}
 use Rattle.tree_facts.proofs.Renumbering.{contains_image}
 use Rattle.flat_form.specs.declared.atom.Flat.{Flat}
@@ -40,6 +40,15 @@ module _ (raw mid : Cube) (idle : List ℕ) (over : IsWellNumbered raw) (g : IsG
       let was = busy_parts idle first busy busy_is part stands in
       subst (λ (z : Part). PartOver (mid.free + length order) z) same
       (part_over raw mid idle over g order basic o part (first_shape part was.0).over was.1))
+
+  -- the same of a list that is equal, over so many variables
+  pub parts_over : (count : ℕ) (slice : List Part) → count ≡ mid.free + length order → slice ≡ moved → All (PartOver count) slice
+  parts_over count slice e s = subst (λ (z : List Part). All (PartOver count) z) (sym s) (subst (λ (z : ℕ). All (PartOver z) moved) (sym e) moved_over)
+
+  pub settled_parts : (count : ℕ) (slice second : List Part) → count ≡ mid.free + length order → slice ≡ moved → Settles count basic slice second
+      → Settles (mid.free + length order) basic moved second
+  settled_parts count slice second e s is =
+      subst (λ (z : List Part). Settles (mid.free + length order) basic z second) s (subst (λ (z : ℕ). Settles z basic slice second) e is)
 
   module _ (second : List Part) (second_is : Settles (mid.free + length order) basic moved second) where
     shape : (part : Part) → Contains second part → HasSettledShape (mid.free + length order) basic part

@@ -221,7 +221,7 @@ module _ (raw cube : Cube) (idle : List ℕ) (over : IsWellNumbered raw) (g : Is
     abbrev bare : Cube
     bare = record { free = cube.free; outer = length order; basic = basic; parts = [] }
 
-    cleared : IsCleared cube idle [] bare
+    abbrev cleared : IsCleared cube idle [] bare
     cleared = record {
       busy = [];
       order = order;
@@ -250,7 +250,10 @@ module _ (raw cube : Cube) (idle : List ℕ) (over : IsWellNumbered raw) (g : Is
         (cube.free + length order + (length idle + part.inner)) part.basic low (λ a i v here.
         let w : v < cube.free + cube.outer + part.inner = over_below (cube.free + cube.outer + part.inner) part.basic low a i v here in
         elim (side v (cube.free + cube.outer)) [
-          | inl l ↦ let h = last_low cube idle [] bare right cleared v l (λ k. busy v k (a, i, here)) in omega (arith, h)
+          | inl l ↦
+              let h : new_number cube.free (cube.free + cube.outer) (order ++ idle) v < cube.free + length order =
+              last_low cube idle [] bare right cleared v l (λ k. busy v k (a, i, here)) in
+              omega (arith, h)
           | inr le ↦
               let e : new_number cube.free (cube.free + cube.outer) (order ++ idle) v ≡ cube.free + length order + length idle + (v - (cube.free + cube.outer)) =
               last_high cube idle [] bare right cleared v le in

@@ -1,6 +1,6 @@
 -- Some atoms of a list, taken one after another.
-use Rattle.std.specs.Prelude.{Contains, ◌↔◌}
-use Rattle.std.proofs.Common.{ℕ, zero, suc, ◌≡◌, ◌+◌, ◌<◌, ◌≤◌, List, [], ◌∷◌, ◌++◌, length, take, get_or, refl, sym, ap, ◌∙◌, subst, arith, inl, inr, ◌⊎◌}
+use Rattle.std.specs.Prelude.{Contains, IsTrue, ◌↔◌}
+use Rattle.std.proofs.Common.{ℕ, Bool, true, false, rules, zero, suc, ◌≡◌, ◌+◌, ◌<◌, ◌≤◌, List, [], ◌∷◌, ◌++◌, length, take, get_or, refl, sym, ap, ◌∙◌, subst, arith, inl, inr, ◌⊎◌}
 use Rattle.std.proofs.lemmas.List.{take_more, take_all}
 use Rattle.std.proofs.lemmas.List.Elements.{Contains-push, Contains-push_cases, Contains-append_left}
 use Rattle.tree_facts.proofs.Members.{contains_first, contains_later, contains_cases}
@@ -88,6 +88,11 @@ module _ (P : Flat → Type 0) (atoms found : List Flat) (i : ℕ) (x : Flat) (u
       ],
     );
   }
+
+-- a test that is true
+pub always : (b : Bool) → b ≡ true → IsTrue b
+always true e = search rules
+always false e = absurd (cc e)
 
 -- all atoms were gone through
 pub found_all : (P : Flat → Type 0) (atoms found : List Flat) (i : ℕ) → length atoms ≤ i → IsFound P (take i atoms) found → IsFound P atoms found

@@ -32,17 +32,19 @@ fn eliminated(alloc: Global, grouped: Grouped) -> Result<Option<Cube>, NoMemory>
         count,
         base: mid.basic,
     };
-    let Some(first) = settled_unless_implied(alloc, &over, mid.parts.as_slice())? else {
-        return Ok(None);
-    };
-    let mid = Cube {
-        free: mid.free,
-        outer: mid.outer,
-        basic: over.base,
-        parts: mid.parts,
-    };
-    let cube = cleared(alloc, &mid, idle.as_slice(), first.as_slice())?;
-    Ok(Some(cube))
+    match settled_unless_implied(alloc, &over, mid.parts.as_slice())? {
+        Some(first) => {
+            let mid = Cube {
+                free: mid.free,
+                outer: mid.outer,
+                basic: over.base,
+                parts: mid.parts,
+            };
+            let cube = cleared(alloc, &mid, idle.as_slice(), first.as_slice())?;
+            Ok(Some(cube))
+        }
+        None => Ok(None),
+    }
 }
 
 // What all steps come to.
