@@ -15,7 +15,8 @@ module _ {X : Type 0} where
 
   pub same_more : (xs ys : List X) (i : ℕ) (x y : X) → slice_get xs i ≡ Some x → slice_get ys i ≡ Some y → x ≡ y → take i xs ≡ take i ys → take (i + 1) xs ≡ take (i + 1) ys
   same_more xs ys i x y e f is same =
-      subst (λ (k : ℕ). take k xs ≡ take k ys) (omega arith) (same_next xs ys i x e (f ∙ ap Some (sym is)) same)
+      let next : suc i ≡ i + 1 = omega arith in
+      subst (λ (k : ℕ). take k xs ≡ take k ys) next (same_next xs ys i x e (f ∙ ap Some (sym is)) same)
 
   pub differ_there : (xs ys : List X) (i : ℕ) (x y : X) → slice_get xs i ≡ Some x → slice_get ys i ≡ Some y → ¬ (x ≡ y) → ¬ (xs ≡ ys)
   differ_there xs ys i x y e f differ same = let both : Some x ≡ Some y = sym e ∙ ap (λ (z : List X). slice_get z i) same ∙ f in let is : x ≡ y = cc in differ is
