@@ -9,7 +9,6 @@ use Rattle.tree_facts.proofs.Renumbering.{contains_image}
 use Rattle.flat_form.specs.declared.atom.Flat.{Flat}
 use Rattle.flat_form.specs.declared.atom.Flat.TheVariants.{VarVar, VarTerm, Finite}
 use Rattle.flat_form.specs.declared.cube.Part.{Part}
-use Rattle.flat_form.specs.Added.{IsAdded}
 use Rattle.flat_form.specs.Parts.{renumbered}
 use Rattle.flat_form.specs.Orders.{renumbered_part, IsRenumbering}
 use Rattle.flat_form.proofs.Symbols.{Fit, PartsFit}
@@ -42,13 +41,6 @@ module _ (Q : Symbol → ℕ → Type 0) where
   map_fits f atoms before = record {
     each = λ u symbol ys i.
         let (other, stands, same) = contains_image (renumbered f) atoms (VarTerm u symbol ys) i in from_renumbered f atoms other u symbol ys before stands (sym same);
-  }
-
-  pub added_fit : (base atoms added : List Flat) → Fit Q atoms → IsAdded base atoms added → Fit Q added
-  added_fit base atoms added f adds = record {
-    each = λ u symbol ys i.
-        let new = adds.each (VarTerm u symbol ys) i in
-        subst (λ (n : ℕ). Q symbol n) (sym new.as_many) (f.each new.variable symbol new.xs new.stands);
   }
 
   pub tail_fits : (part : Part) (parts : List Part) → PartsFit Q (part ∷ parts) → PartsFit Q parts

@@ -47,14 +47,14 @@ module _ {σ : Signature} (e : Valuation σ) (l r : Cube) (same : l.free ≡ r.f
   left_parts d z alike =
       parts_move (l.free + l.outer) whole (raised (l.free + l.outer) r.outer) (lowered (l.free + l.outer) r.outer) d z l.parts _
       (λ p i v s. left_moves v)
-      (λ v w back path. alike v w path ∙ alike_at z v (raised (l.free + l.outer) r.outer v) (sym (raised_low (l.free + l.outer) r.outer v w)) path)
+      (λ p i v s w path. alike v w path ∙ alike_at z v (raised (l.free + l.outer) r.outer v) (sym (raised_low (l.free + l.outer) r.outer v w)) path)
       (bases_of_renumbered (raised (l.free + l.outer) r.outer) 0 l.parts)
 
   right_parts : (d z : Valuation σ) → ((v : ℕ) → Alike (d v) (z (raised l.free l.outer v)))
       → AllFail (r.free + r.outer) d r.parts ↔ AllFail whole z (map (renumbered_part (raised l.free l.outer) 0) r.parts)
   right_parts d z alike =
       parts_move (r.free + r.outer) whole (raised l.free l.outer) (lowered l.free l.outer) d z r.parts _
-      (λ p i v s. right_moves v) (λ v w back. alike v) (bases_of_renumbered (raised l.free l.outer) 0 r.parts)
+      (λ p i v s. right_moves v) (λ p i v s w. alike v) (bases_of_renumbered (raised l.free l.outer) 0 r.parts)
 
   left_holds : CubeHolds e (joined l r) → CubeHolds e l
   unfolding whole

@@ -24,7 +24,7 @@ bases_of_renumbered f more (part ∷ parts) = ap (λ (rest : List (List Flat)). 
 module _ {σ : Signature} (m k : ℕ) (f g : ℕ → ℕ) (d e : Valuation σ) where
   pub parts_move : (old new : List Part)
       → ((part : Part) → Contains old part → (v : ℕ) → StandsIn part.basic v → MovesNumber m k f g v)
-      → ((v : ℕ) → v < m → g (f v) ≡ v → Alike (d v) (e (f v)))
+      → ((part : Part) → Contains old part → (v : ℕ) → StandsIn part.basic v → v < m → Alike (d v) (e (f v)))
       → map (λ (part : Part). part.basic) new ≡ map (λ (part : Part). map (renumbered f) part.basic) old
       → AllFail m d old ↔ AllFail k e new
   parts_move [] [] moves alike same = (λ none. tt, λ none. tt)
@@ -36,10 +36,10 @@ module _ {σ : Signature} (m k : ℕ) (f g : ℕ → ℕ) (d e : Valuation σ) w
       let mine : (v : ℕ) → StandsIn part.basic v → MovesNumber m k f g v = moves part (contains_first part old) in
       let one = renumbered_part_fails σ m k f g part.basic d e
       (λ a i v o. (mine v (a, i, o)).back)
-      (λ a i v o w. ((mine v (a, i, o)).low w, alike v w (mine v (a, i, o)).back))
+      (λ a i v o w. ((mine v (a, i, o)).low w, alike part (contains_first part old) v (a, i, o) w))
       (λ a i v o w. (mine v (a, i, o)).high w) in
       let first : Fails m d part.basic ↔ Fails k e other.basic = subst (λ (atoms : List Flat). Fails m d part.basic ↔ Fails k e atoms) head one in
-      let rest = parts_move old new (λ p i. moves p (contains_later part p old i)) alike tail in
+      let rest = parts_move old new (λ p i. moves p (contains_later part p old i)) (λ p i. alike p (contains_later part p old i)) tail in
       (λ fail. (first.0 fail.0, rest.0 fail.1), λ fail. (first.1 fail.0, rest.1 fail.1))
 
 module _ {σ : Signature} (n : ℕ) (d : Valuation σ) where

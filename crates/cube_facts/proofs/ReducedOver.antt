@@ -1,38 +1,24 @@
 -- The parts of a reduced cube have the shape of parts.
 use Rattle.std.specs.Prelude.{Contains}
-use Rattle.std.proofs.Common.{ℕ, zero, suc, ◌≡◌, ◌<◌, ◌+◌, List, sym, subst, arith, inl, inr, ◌⊎◌}
+use Rattle.std.proofs.Common.{ℕ, ◌≡◌, ◌<◌, ◌+◌, List, sym, subst, arith, inl, inr, ◌⊎◌}
 use Rattle.std.proofs.lemmas.List.Elements.{All-contains}
 use Rattle.flat_form.specs.declared.atom.Flat.{Flat}
 use Rattle.flat_form.specs.declared.atom.Flat.TheVariants.{VarVar}
 use Rattle.flat_form.specs.declared.cube.Part.{Part}
 use Rattle.flat_form.specs.declared.cube.Cube.{Cube}
 use Rattle.flat_form.specs.Numbering.{PartOver}
-use Rattle.flat_form.specs.Parts.{Under, top, below, AllBelow, IsPartOver}
+use Rattle.flat_form.specs.Parts.{AllBelow, IsPartOver}
 use Rattle.flat_form.specs.Solved.{variable_of, HasTerm, IsSolved}
 use Rattle.flat_form.specs.Reduced.{IsReducedPart, IsReduced}
 use Rattle.flat_form.proofs.Symbols.{each_of}
 use Rattle.flat_facts.proofs.Follows.{over_below}
 use Rattle.cube_facts.specs.Fresh.{ReducedIsOver}
-use Rattle.cube_facts.proofs.Places.{side}
 use Rattle.cube_facts.proofs.Variables.{own_variable}
+use Rattle.cube_facts.proofs.Determined.{numbered_is_under}
 use Rattle.cube_facts.proofs.Settle.{term_apart}
 
 module _ (m : ℕ) (base : List Flat) (part : Part) (solved : IsSolved base) (base_low : AllBelow m base) (reduced : IsReducedPart m base part)
     (low : AllBelow (m + part.inner) part.basic) where
-  -- each variable in scope hangs on the first m ones
-  under_below : (b v : ℕ) → v < b → v < m + part.inner → Under m part.basic v
-  under_below zero v w within = absurd (omega (arith, w))
-  under_below (suc b) v w within = elim (side v m) [
-    | inl first ↦ top first
-    | inr le ↦
-        let (u, i, before, a) = reduced.numbered.hangs v le within in
-        let up : Under m part.basic u = elim before [
-          | inl first ↦ top first
-          | inr less ↦ under_below b u (omega (arith, less, w)) (omega (arith, less, within))
-        ] in
-        subst (Under m part.basic) a.is (below a.symbol a.xs up a.stands i a.within)
-  ]
-
   right_side : (u h : ℕ) → Contains part.basic (VarVar u h) → u < m → (h < u) ⊎ HasTerm base h
       → (u < m) × (h < m) × (¬ (u ≡ h)) × ((r : ℕ) → Contains base (VarVar h r) → ¬ (u ≡ r))
   right_side u h i u_low (inl less) =
@@ -49,7 +35,7 @@ module _ (m : ℕ) (base : List Flat) (part : Part) (solved : IsSolved base) (ba
     left_open = λ a i w. reduced.left_open a i;
     equal = λ u h i. let (u_low, right, last) = reduced.equal u h i in right_side u h i u_low right;
     unmarked = reduced.unmarked;
-    under = λ a i. under_below (suc (variable_of a)) (variable_of a) (omega arith) (low a i (variable_of a) (own_variable a));
+    under = λ a i. numbered_is_under m (m + part.inner) part.basic reduced.numbered (variable_of a) (low a i (variable_of a) (own_variable a));
   }
 
 pub each_over : (cube : Cube) → IsReduced cube → (part : Part) → Contains cube.parts part → IsPartOver (cube.free + cube.outer) cube.basic part.basic

@@ -1,6 +1,6 @@
 -- What new numbers for the variables of a cube keep.
 use Rattle.std.specs.Prelude.{◌≡◌, ℕ, ◌+◌, ◌<◌, ◌≤◌, List, map, Contains, ◌↔◌}
-use Rattle.tree_model.specs.Signatures.{Signature}
+use Rattle.tree_model.specs.Signatures.{Signature, Alike}
 use Rattle.tree_model.specs.Valuations.{Valuation}
 use Rattle.flat_form.specs.declared.atom.Flat.{Flat}
 use Rattle.flat_form.specs.declared.cube.Part.{Part}
@@ -23,19 +23,20 @@ pub record MovesNumber (m k : ℕ) (f g : ℕ → ℕ) (v : ℕ) : Type 0 where
   pub low : v < m → f v < k
   pub high : m ≤ v → k ≤ f v
 
--- New numbers f, which g takes back, for all variables of a cube: the free ones stay, the outer ones become outer ones
--- of the new cube, and the inner ones inner ones. How many inner variables a part has is free.
+-- New numbers f, which g takes back, for all variables of a cube: free ones become free ones of the new cube, outer ones
+-- outer ones, and inner ones inner ones. How many inner variables a part has is left open.
 pub record IsRenumberedCube (f g : ℕ → ℕ) (old new : Cube) : Type 0 where
-  pub free_is : old.free ≡ new.free
-  pub fixed : (v : ℕ) → v < old.free → (f v ≡ v) × (g v ≡ v)
+  pub free : (v : ℕ) → StandsInCube old v → MovesNumber old.free new.free f g v
   pub moves : (v : ℕ) → StandsInCube old v → MovesNumber (old.free + old.outer) (new.free + new.outer) f g v
   pub basic_is : (atom : Flat) → Contains new.basic atom ↔ ((other : Flat) × Contains old.basic other × (atom ≡ renumbered f other))
   pub parts_are : map (λ (part : Part). part.basic) new.parts ≡ map (λ (part : Part). map (renumbered f) part.basic) old.parts
 
--- such cubes hold together
+-- such cubes hold together, where the free variables that stand in the old one have the same values
 abbrev pub RenumberedMeans : Type 0
 RenumberedMeans =
-    (σ : Signature) (old new : Cube) (f g : ℕ → ℕ) (e : Valuation σ) → IsRenumberedCube f g old new → CubeHolds e old ↔ CubeHolds e new
+    (σ : Signature) (old new : Cube) (f g : ℕ → ℕ) (d e : Valuation σ) → IsRenumberedCube f g old new
+    → ((v : ℕ) → v < old.free → StandsInCube old v → Alike (d v) (e (f v)))
+    → CubeHolds d old ↔ CubeHolds e new
 
 -- new numbers that are one to one on what stands in base and part keep the shape of the part
 abbrev pub ShapeRenumbered : Type 0

@@ -1,5 +1,5 @@
 //! Laws of cubes, each a clause of a function that does nothing.
-ghost use Rattle.cube_facts.specs.Determined.{OuterIsDetermined};
+ghost use Rattle.cube_facts.specs.Determined.{UnderIsDetermined, NumberedIsUnder, OuterIsDetermined};
 ghost use Rattle.cube_facts.specs.Fresh.{FreshValuesFail, ReducedIsOver, ReducedHasSolution, PartsOverHaveSolution, SettledHasSolution};
 ghost use Rattle.cube_facts.specs.Numbers.{FullOrderIsAsLong, OldNumberIsBack};
 ghost use Rattle.cube_facts.specs.Raws.{JoinedMeans, OpenedMeans, DeniedMeans, RawsAreWellNumbered, RawsFit, RawsHaveSymbols};
@@ -12,9 +12,12 @@ pub fn number_laws()
     ensures back { OldNumberIsBack }
 {}
 
-/// The values of the free variables determine those of outer ones that are numbered by first occurrence.
+/// The values of the first variables determine those of what they reach along terms, and so those of outer variables that
+/// are numbered by first occurrence.
 pub fn determined_laws()
-    ensures { OuterIsDetermined }
+    ensures under { UnderIsDetermined }
+    ensures numbered { NumberedIsUnder }
+    ensures outer { OuterIsDetermined }
 {}
 
 /// A settled part says the same as the part, has the shape of one, and something is left of it.

@@ -17,3 +17,4 @@ pub mod Solutions
 pub mod Spread
 pub mod Stores
 pub mod Suffices
+pub mod Symbols

@@ -1,5 +1,5 @@
 -- Laws of what atoms add to a solved conjunction, and of solved forms.
-use Rattle.std.specs.Prelude.{ℕ, ◌≡◌, List, [], ◌++◌, Contains, ◌↔◌}
+use Rattle.std.specs.Prelude.{ℕ, ◌≡◌, List, [], ◌++◌, Contains, ◌↔◌, All}
 use Rattle.classical.specs.Classical.{Exists}
 use Rattle.tree_model.specs.declared.tree.Symbol.{Symbol}
 use Rattle.tree_model.specs.Signatures.{Signature, Alike}
@@ -10,6 +10,7 @@ use Rattle.flat_form.specs.declared.atom.Flat.TheVariants.{VarTerm, Finite}
 use Rattle.flat_form.specs.Meanings.{BasicHolds}
 use Rattle.flat_form.specs.Numbering.{BasicOver}
 use Rattle.flat_form.specs.Fitting.{BasicFits}
+use Rattle.flat_form.specs.Symbols.{basic_symbols}
 use Rattle.flat_form.specs.Classes.{Unsolvable}
 use Rattle.flat_form.specs.Solved.{IsOpen, IsDirect, IsSolved}
 use Rattle.flat_form.specs.Added.{IsAdded, IsSolvedForm}
@@ -44,6 +45,10 @@ abbrev pub AddedIsOver : Type 0
 AddedIsOver = (n : ℕ) (base atoms added : List Flat) → BasicOver n atoms → IsAdded base atoms added → BasicOver n added
 
 -- its symbols are symbols of the atoms, with as many arguments
+abbrev pub AddedSymbols : Type 0
+AddedSymbols = (base atoms added : List Flat) → IsAdded base atoms added → All (Contains (basic_symbols atoms)) (basic_symbols added)
+
+-- so it fits what they fit
 abbrev pub AddedFits : Type 0
 AddedFits = (σ : Signature) (base atoms added : List Flat) → BasicFits σ atoms → IsAdded base atoms added → BasicFits σ added
 

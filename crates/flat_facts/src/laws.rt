@@ -1,6 +1,6 @@
 //! Laws of classes and solved forms, each a clause of a function that does nothing.
 ghost use Rattle.flat_facts.specs.ClassLaws.{ClassIsAlike, ReachedIsFinite, UnsolvableHasNoSolution, SolvableHasSolution};
-ghost use Rattle.flat_facts.specs.AddedLaws.{AddedFollows, AddedSuffices, NothingAddedWhereImplied, SomethingIsAdded, AddedIsDetermined, AddedIsApart, AddedIsOver, AddedFits, SolvedFormIsSolved, SolvedIsOwnForm, SolvedHasSolution, SolvedIsUnique, SolvedFormMeans};
+ghost use Rattle.flat_facts.specs.AddedLaws.{AddedFollows, AddedSuffices, NothingAddedWhereImplied, SomethingIsAdded, AddedIsDetermined, AddedIsApart, AddedIsOver, AddedSymbols, AddedFits, SolvedFormIsSolved, SolvedIsOwnForm, SolvedHasSolution, SolvedIsUnique, SolvedFormMeans};
 ghost use Rattle.flat_facts.specs.StoreLaws.{TogetherSolvable, AddedMeansMore, NothingAddedToStore};
 ghost use Rattle.flat_facts.specs.Spread.{RoundIsInfinite, FiniteWhereLeavesAre, LeastRoundIsOne};
 ghost use Rattle.flat_facts.specs.PartLaws.{AddedIsLoose, PrunedFails, PrunedIsPartOver, FailsWithMoved, FailsWhenFilled, RenumberedFails};
@@ -30,6 +30,7 @@ pub fn added_laws()
     ensures determined { AddedIsDetermined }
     ensures apart { AddedIsApart }
     ensures over { AddedIsOver }
+    ensures symbols { AddedSymbols }
     ensures fits { AddedFits }
 {}
 

@@ -1,4 +1,8 @@
 -- The steps that reduce a raw cube, each as a relation, and what they may come to.
+--
+-- First the basic is solved. Second, the outer variables are split, and equations of determined ones move into the parts.
+-- Third, the parts are settled. Fourth, a part that adds nothing ends the work. Fifth and sixth, idle variables go, with
+-- the parts that mention them. Seventh, variables are numbered by first occurrence, and the parts settled again.
 use Rattle.std.specs.Prelude.{◌≡◌, ℕ, ◌+◌, ◌<◌, ◌≤◌, List, [], ◌∷◌, ◌++◌, map, length, slice_index, Contains, ◌↔◌, Option, Some, None}
 use Rattle.std.specs.List.Sorted.{IsStrictlyIncreasing}
 use Rattle.tree_model.specs.declared.tree.Symbol.{Symbol}

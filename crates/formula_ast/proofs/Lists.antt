@@ -1,7 +1,6 @@
 -- Facts on lists.
-use Rattle.std.proofs.Common.{◌≡◌, ℕ, zero, suc, ◌+◌, List, [], ◌∷◌, ◌++◌, take, Option, Some, None, Result, Ok, Err, cond, false, ap, add-one}
+use Rattle.std.proofs.Common.{◌≡◌, ℕ, zero, suc, ◌+◌, List, [], ◌∷◌, ◌++◌, take, Option, Some, None, ap, add-one}
 use Rattle.std.specs.Prelude.{slice_get}
-use Rattle.std.specs.Result.{is_ok, is_err}
 
 or_else : {A : Type 0} → A → Option A → A
 or_else d None = d
@@ -19,9 +18,3 @@ more (y ∷ xs) (suc i) x got = ap (λ l. y ∷ l) (more xs i x got)
 -- one more item of a list
 pub take_more_got : {A : Type 0} (xs : List A) (i : ℕ) (x : A) → slice_get xs i ≡ Some x → take (i + 1) xs ≡ take i xs ++ x ∷ []
 take_more_got xs i x got = rw add-one (more xs i x got)
-
--- what a push leaves that did not fail
-pub pushed : {A T E : Type 0} (old : List A) {new : List A} (x : A) (r : Result T E) → new ≡ cond (is_ok r) (old ++ x ∷ []) old → is_err r ≡ false
-    → new ≡ old ++ x ∷ []
-pushed old x (Ok v) is none = is
-pushed old x (Err v) is none = absurd (cc none)

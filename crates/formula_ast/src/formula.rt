@@ -32,10 +32,7 @@ pub enum Formula {
 pub(crate) fn boxed(alloc: Global, f: Formula) -> Result<Boxed<Formula>, NoMemory>
     ensures { IfOk result (λ b. b ≡ f) }
 {
-    match Boxed::new(alloc, f) {
-        Ok(b) => Ok(b),
-        Err(_) => Err(NoMemory),
-    }
+    Ok(Boxed::new(alloc, f)?)
 }
 
 impl Formula {

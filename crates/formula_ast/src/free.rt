@@ -1,6 +1,5 @@
 //! The free variables of a formula.
-ghost use Rattle.std.specs.Prelude.{◌≡◌, ◌==◌, ℕ, [], ◌∷◌, ◌++◌, flat_map, Contains, ◌↔◌, IfOk, OnOk};
-ghost use Rattle.std.specs.List.{list_any};
+ghost use Rattle.std.specs.Prelude.{◌≡◌, ℕ, [], ◌∷◌, ◌++◌, flat_map, Contains, ◌↔◌, IfOk, OnOk};
 ghost use Rattle.formula_ast.specs.Collecting.{Collects, without_all};
 ghost use Rattle.formula_ast.specs.Forms.{form_of};
 ghost use Rattle.formula_ast.specs.Occurrences.{without, variables_in, first_occurrences, free_occurrences};
@@ -11,18 +10,6 @@ use crate::{Formula, Term, Terms};
 use sqlite_items::Boxed;
 use std::alloc::Global;
 use tree_model::{NoMemory, Places};
-
-// Whether the list has the item.
-fn has(places: &Places, item: usize) -> bool
-    ensures { result ≡ list_any (λ other. other == item) places.now }
-{
-    for i in 0..places.len() {
-        if *places.get(i) == item {
-            return true;
-        }
-    }
-    false
-}
 
 // The free variables that were met, each once, and the variables that quantifiers bind here.
 #[derive(Drop)]
@@ -37,7 +24,7 @@ impl Free {
         ensures bound { OnOk result (self.new.bound.items ≡ self.old.bound.items) }
         ensures met { OnOk result (Collects self.old.met self.new.met (without_all self.old.bound.items (x ∷ []))) }
     {
-        if self.bound.contains(&x) || has(&self.met, x) {
+        if self.bound.contains(&x) || self.met.as_slice().contains(&x) {
             return Ok(());
         }
         self.met.push(x)
@@ -61,8 +48,8 @@ impl Free {
         ensures bound { OnOk result (self.new.bound.items ≡ self.old.bound.items) }
         ensures met { OnOk result (Collects self.old.met self.new.met (without_all self.old.bound.items (flat_map variables_in (list_of ts.now)))) }
     {
-        for i in 0..ts.len() {
-            self.term(ts.get(i))?;
+        for t in ts.as_slice() {
+            self.term(t)?;
         }
         Ok(())
     }
@@ -102,9 +89,7 @@ impl Free {
         ensures bound { OnOk result (self.new.bound.items ≡ self.old.bound.items) }
         ensures met { OnOk result (Collects self.old.met self.new.met (without_all self.old.bound.items (without x (free_occurrences (form_of f.now))))) }
     {
-        if self.bound.push(x).is_err() {
-            return Err(NoMemory);
-        }
+        self.bound.push(x)?;
         self.formula(f.get())?;
         let _ = self.bound.pop();
         Ok(())

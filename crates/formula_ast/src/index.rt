@@ -19,10 +19,8 @@ fn of_symbol(symbol: Symbol, met: &mut Vec<u64>) -> Result<(), NoMemory>
     if met.contains(&k) {
         return Ok(());
     }
-    match met.push(k) {
-        Ok(()) => Ok(()),
-        Err(_) => Err(NoMemory),
-    }
+    met.push(k)?;
+    Ok(())
 }
 
 // Adds the indexes of a term.
@@ -44,8 +42,8 @@ fn of_term(t: &Term, met: &mut Vec<u64>) -> Result<(), NoMemory>
 fn of_terms(ts: &Terms, met: &mut Vec<u64>) -> Result<(), NoMemory>
     ensures { OnOk result (Collects met.old.items met.new.items (flat_map indexes_in (list_of ts.now))) }
 {
-    for i in 0..ts.len() {
-        of_term(ts.get(i), met)?;
+    for t in ts.as_slice() {
+        of_term(t, met)?;
     }
     Ok(())
 }

@@ -17,7 +17,7 @@ pub use formula::Formula;
 pub use free::free_variables;
 pub use index::indexes;
 pub use laws::{meanings_are_stable, well_formed_is_stable};
-pub use names::Names;
+pub use names::{Name, Names};
 pub use pred::{Pred, Preds};
 pub use statement::{Statement, Statements};
 pub use term::{Term, Terms};

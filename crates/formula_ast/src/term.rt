@@ -29,10 +29,7 @@ impl Term {
     {
         match self {
             Term::Var(v) => Ok(Term::Var(*v)),
-            Term::App(symbol, terms) => match terms.copy(alloc) {
-                Ok(terms) => Ok(Term::App(*symbol, terms)),
-                Err(e) => Err(e),
-            },
+            Term::App(symbol, terms) => Ok(Term::App(*symbol, terms.copy(alloc)?)),
         }
     }
 }
@@ -52,10 +49,8 @@ impl Terms {
         ensures ok { OnOk result (list_of self.new ≡ list_of self.old ++ item ∷ []) }
         ensures err { OnErr result (list_of self.new ≡ list_of self.old) }
     {
-        match self.items.push(item) {
-            Ok(()) => Ok(()),
-            Err(_) => Err(NoMemory),
-        }
+        self.items.push(item)?;
+        Ok(())
     }
 
     /// How many items there are. It takes no memory.
@@ -73,6 +68,13 @@ impl Terms {
         &self.items.as_slice()[i]
     }
 
+    /// The items. It takes no memory.
+    pub fn as_slice(&self) -> &[Term]
+        ensures { result.now ≡ list_of self.now }
+    {
+        self.items.as_slice()
+    }
+
     /// An equal list.
     #[cycle(copy)]
     pub fn copy(&self, alloc: Global) -> Result<Terms, NoMemory>
@@ -80,10 +82,7 @@ impl Terms {
     {
         let mut items = Items::new(alloc);
         for item in self.items.as_slice() {
-            let copied = item.copy(alloc)?;
-            if items.push(copied).is_err() {
-                return Err(NoMemory);
-            }
+            items.push(item.copy(alloc)?)?;
         }
         Ok(Terms { items })
     }

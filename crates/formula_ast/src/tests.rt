@@ -1,5 +1,6 @@
 use super::*;
 use crate::formula::boxed;
+use lists::Copied;
 use signature::{Kind, Signature};
 use sqlite_items::Boxed;
 use std::alloc::Global;
@@ -72,21 +73,19 @@ fn text_of_copy(alloc: Global, formula: &Formula) -> Result<String, Fail> {
 // The names `X` and `Y`.
 fn two_names(alloc: Global) -> Result<Names, Fail> {
     let mut names = Names::new(alloc);
-    names.push(String::from_str(alloc, "X")?)?;
-    names.push(String::from_str(alloc, "Y")?)?;
+    names.push(Name::new(String::from_str(alloc, "X")?))?;
+    names.push(Name::new(String::from_str(alloc, "Y")?))?;
     Ok(names)
 }
 
 #[test]
-fn a_list_of_names_grows_and_is_copied(rt: HostRuntime) -> Result<(), Fail> {
-    let names = two_names(rt.alloc())?;
-    let copy = names.copy(rt.alloc())?;
-    assert_eq!(rt; names.len(), 2);
-    assert_eq!(rt; copy.len(), 2);
-    if copy.len() == 2 {
-        assert_eq!(rt; copy.get(0), "X");
-        assert_eq!(rt; copy.get(1), "Y");
+fn a_list_of_names_is_copied(rt: HostRuntime) -> Result<(), Fail> {
+    let copy = two_names(rt.alloc())?.copy(rt.alloc())?;
+    let mut texts = Vec::new(rt.alloc());
+    for name in copy.as_slice() {
+        texts.push(name.as_str())?;
     }
+    assert_eq!(rt; texts.as_slice(), ["X", "Y"].as_slice());
     Ok(())
 }
 
@@ -167,11 +166,7 @@ fn has_argument(alloc: Global) -> Result<Formula, Fail> {
 // Whether these are the free variables of the formula, in this order.
 fn has_free(alloc: Global, formula: &Formula, wanted: &[usize]) -> Result<bool, NoMemory> {
     let found = free_variables(alloc, formula)?;
-    let mut equal = found.len() == wanted.len();
-    for i in 0..found.len() {
-        equal = equal && wanted.get(i) == Some(found.get(i));
-    }
-    Ok(equal)
+    Ok(found.as_slice() == wanted)
 }
 
 // The formula that all X are such that Y is finite, where X is 3 and Y is 4.

@@ -22,7 +22,7 @@ use Rattle.cube_facts.specs.Settling.{HasSettledShape}
 use Rattle.cube_facts.proofs.Places.{side}
 use Rattle.cube_facts.proofs.Settle.{settled_parts_shape, something_is_left, some_atom}
 use Rattle.cube_facts.proofs.Shape.{shape_renumbered}
-use Rattle.step_facts.proofs.NewNumbers.{number_is_back, free_number, front_number, beyond_number}
+use Rattle.step_facts.proofs.NewNumbers.{number_is_back, free_number, bound_number, front_number, beyond_number}
 use Rattle.step_facts.proofs.Renumberings.{map_over, renumbering_over, solved_new}
 use Rattle.step_facts.specs.Grouped.{IsGroupedCube}
 
@@ -124,6 +124,9 @@ module _ (mid : Cube) (idle : List ℕ) (first : List Part) (cube : Cube) (befor
 
   pub last_fixed : (v : ℕ) → v < mid.free → (number v ≡ v) × (old v ≡ v)
   last_fixed v low = free_number mid.free scope c.order idle (omega arith) covers v low
+
+  pub last_bound : (v : ℕ) → mid.free ≤ v → mid.free ≤ number v
+  last_bound v le = bound_number mid.free scope c.order idle (omega arith) covers v le
 
   bound_is : bound ≡ mid.free + length c.order
   bound_is = omega (arith, c.free_is, c.outer_is)

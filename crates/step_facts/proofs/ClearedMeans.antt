@@ -22,14 +22,14 @@ use Rattle.cube_facts.proofs.Fits.{renumbering_fits, moved_parts_fit}
 use Rattle.cube_facts.proofs.Variables.{stands_tells}
 use Rattle.cube_facts.proofs.Idle.{idle_may_go}
 use Rattle.cube_facts.proofs.Settle.{settles_there, settles_back, settles_over}
-use Rattle.cube_facts.proofs.PartsMove.{bases_of_renumbered}
+use Rattle.cube_facts.proofs.PartsMove.{alike_at, bases_of_renumbered}
 use Rattle.cube_facts.proofs.RenumberedCubes.{renumbered_means}
 use Rattle.step_facts.specs.Grouped.{IsGroupedCube}
 use Rattle.step_facts.specs.Cleared.{ClearedMeans}
 use Rattle.step_facts.proofs.StepFits.{settled_fit, busy_fit, rest_fit, parts_fit}
 use Rattle.step_facts.proofs.Finished.{finished_fails}
 use Rattle.step_facts.proofs.Grouped.{grouped_is_right}
-use Rattle.step_facts.proofs.Cleared.{busy_parts, not_idle, last_back, last_fixed, last_low, last_high, end_over, end_solved}
+use Rattle.step_facts.proofs.Cleared.{busy_parts, not_idle, last_back, last_fixed, last_bound, last_low, last_high, end_over, end_solved}
 use Rattle.step_facts.proofs.GroupedMeans.{holds_beside}
 
 -- the atoms of other variables than these
@@ -79,8 +79,11 @@ module _ (mid cube : Cube) (idle : List ℕ) (first : List Part) (before : IsGro
         parts = map (renumbered_part (new_number mid.free (mid.free + mid.outer) (c.order ++ idle)) (length idle)) c.busy;
       })
   is_renumbered rest rest_is = record {
-    free_is = sym c.free_is;
-    fixed = last_fixed mid idle first cube before c;
+    free = λ v s. record {
+      back = last_back mid idle first cube before c v;
+      low = λ w. omega (arith, (last_fixed mid idle first cube before c v w).0, w, c.free_is);
+      high = λ le. let e = last_bound mid idle first cube before c v le in omega (arith, e, c.free_is);
+    };
     moves = λ v s. record {
       back = last_back mid idle first cube before c v;
       low = λ w. last_low mid idle first cube before c v w (stands_busy v s);
@@ -148,8 +151,9 @@ module _ (σ : Signature) (raw mid cube : Cube) (idle : List ℕ) (first : List 
           (settles_over (mid.free + mid.outer) mid.basic before.solved mid_low mid.parts first settles))
           (λ v i. (before.outer v i, before.alone v i)) c.busy_is o.is in
           let moves : CubeHolds e idle_cube ↔ CubeHolds e last_cube = renumbered_means σ idle_cube last_cube
-          (λ v. new_number mid.free (mid.free + mid.outer) (c.order ++ idle) v) (λ v. old_number mid.free (mid.free + mid.outer) (c.order ++ idle) v) e
-          (is_renumbered mid cube idle first before c o.rest o.is) in
+          (λ v. new_number mid.free (mid.free + mid.outer) (c.order ++ idle) v) (λ v. old_number mid.free (mid.free + mid.outer) (c.order ++ idle) v) e e
+          (is_renumbered mid cube idle first before c o.rest o.is)
+          (λ v w s. alike_at e v (new_number mid.free (mid.free + mid.outer) (c.order ++ idle) v) (sym (last_fixed mid idle first cube before c v w).0)) in
           (λ h. moves.0 (goes.0 h), λ h. goes.1 (moves.1 h))
 
       cube_fits_here : BasicFits σ cube.basic

@@ -24,11 +24,11 @@ use Rattle.cube_facts.specs.Renumbered.{IsRenumberedCube}
 use Rattle.cube_facts.proofs.Fits.{renumbering_fits}
 use Rattle.cube_facts.proofs.Variables.{stands_tells}
 use Rattle.cube_facts.proofs.Moved.{moved_means}
-use Rattle.cube_facts.proofs.PartsMove.{bases_of_renumbered}
+use Rattle.cube_facts.proofs.PartsMove.{alike_at, bases_of_renumbered}
 use Rattle.cube_facts.proofs.RenumberedCubes.{renumbered_means}
 use Rattle.step_facts.specs.Grouped.{GroupedMeans}
 use Rattle.step_facts.proofs.OneGrouping.{same_cube}
-use Rattle.step_facts.proofs.NewNumbers.{range_number, beyond_number}
+use Rattle.step_facts.proofs.NewNumbers.{bound_number, range_number, beyond_number}
 use Rattle.step_facts.proofs.Grouped.{covers, number_back, number_fixed, rest_low, moved_determines}
 
 -- a cube holds where one does whose basic holds with its own, and whose parts fail with its own
@@ -81,8 +81,11 @@ module _ (σ : Signature) (raw mid : Cube) (idle : List ℕ) (e : Valuation σ) 
 
   is_renumbered : IsRenumberedCube number (old_number raw.free (raw.free + raw.outer) (g.kept ++ g.determined)) solved_cube renumbered_cube
   is_renumbered = record {
-    free_is = refl;
-    fixed = λ v w. number_fixed raw mid idle over.basic g v w;
+    free = λ v s. record {
+      back = number_back raw mid idle over.basic g v;
+      low = λ w. omega (arith, (number_fixed raw mid idle over.basic g v w).0, w);
+      high = λ w. bound_number raw.free (raw.free + raw.outer) g.kept g.determined (omega arith) (covers raw mid idle over.basic g) v w;
+    };
     moves = λ v s. record {
       back = number_back raw mid idle over.basic g v;
       low = λ w.
@@ -110,7 +113,8 @@ module _ (σ : Signature) (raw mid : Cube) (idle : List ℕ) (e : Valuation σ) 
   mid_is = same_cube mid moved_cube g.free_is g.outer_is refl (g.parts_are ∙ both_numbers number (length g.determined) g.moved raw.parts)
 
   across : CubeHolds e solved_cube ↔ CubeHolds e renumbered_cube
-  across = renumbered_means σ solved_cube renumbered_cube number (old_number raw.free (raw.free + raw.outer) (g.kept ++ g.determined)) e is_renumbered
+  across = renumbered_means σ solved_cube renumbered_cube number (old_number raw.free (raw.free + raw.outer) (g.kept ++ g.determined)) e e is_renumbered
+      (λ v w s. alike_at e v (number v) (sym (number_fixed raw mid idle over.basic g v w).0))
 
   moves : CubeHolds e renumbered_cube ↔ CubeHolds e moved_cube
   moves = moved_means σ raw.free (length g.kept) (length g.determined) mid.basic g.moved

@@ -70,6 +70,13 @@ module _ (free scope : ℕ) (front behind : List ℕ) (le : free ≤ scope)
       let e = number_low free scope (front ++ behind) v w in
       (e, ap (old_number free scope (front ++ behind)) (sym e) ∙ number_is_back v)
 
+  -- and others get numbers behind them
+  pub bound_number : (v : ℕ) → free ≤ v → free ≤ new_number free scope (front ++ behind) v
+  bound_number v a = elim (side v scope) [
+    | inl b ↦ omega (arith, number_in free scope (front ++ behind) v a b)
+    | inr b ↦ omega (arith, number_high free scope (front ++ behind) v a b)
+  ]
+
   -- an item of the front gets a number of the front
   pub number_in_front : (v : ℕ) → free ≤ v → v < scope → Contains front v
       → (free ≤ new_number free scope (front ++ behind) v) × (new_number free scope (front ++ behind) v < free + length front)

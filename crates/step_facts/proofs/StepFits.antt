@@ -18,7 +18,8 @@ use Rattle.flat_form.specs.Steps.{Settles, WithoutIdle, Finishes, IsGrouped, IsC
 use Rattle.flat_form.specs.Symbols.{cube_symbols}
 use Rattle.flat_form.proofs.Symbols.{Fit, IsFit, fits, cube_fit, cube_fits, PartsFit, all_of_cube, cube_of_all}
 use Rattle.flat_facts.proofs.Existence.{solvable_solution}
-use Rattle.cube_facts.proofs.Fits.{both_fit, renumbering_fits, map_fits, added_fit, tail_fits, more_fit, none_fit, one_more_fits, moved_parts_fit}
+use Rattle.flat_facts.proofs.Symbols.{added_fit}
+use Rattle.cube_facts.proofs.Fits.{both_fit, renumbering_fits, map_fits, tail_fits, more_fit, none_fit, one_more_fits, moved_parts_fit}
 use Rattle.step_facts.specs.Outcomes.{OutcomeSymbols, OutcomeFits}
 
 module _ (Q : Symbol → ℕ → Type 0) where

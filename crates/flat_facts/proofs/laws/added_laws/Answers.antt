@@ -6,6 +6,7 @@ use Rattle.flat_facts.proofs.Shapes.{added_determined}
 use Rattle.flat_facts.proofs.Shapes.{added_is_apart}
 use Rattle.flat_facts.proofs.Follows.{added_over}
 use Rattle.flat_facts.proofs.Follows.{added_fits}
+use Rattle.flat_facts.proofs.Symbols.{added_symbols}
 use Rattle.flat_facts.proofs.laws.added_laws.Goals as goal
 
 pub returns-clause-follows : goal.returns-clause-follows
@@ -31,3 +32,6 @@ returns-clause-over c = added_over
 
 pub returns-clause-fits : goal.returns-clause-fits
 returns-clause-fits c = added_fits
+
+pub returns-clause-symbols : goal.returns-clause-symbols
+returns-clause-symbols c = added_symbols

@@ -1,3 +1,5 @@
+use Rattle.std.proofs.Common.{arith}
+use Rattle.lists.proofs.Items.{item_stands}
 use Rattle.std.proofs.lemmas.Result.{on_ok_weaker}
 use Rattle.formula_ast.specs.Occurrences.{indexes_in}
 use Rattle.formula_ast.specs.Terms.{list_of}
@@ -12,7 +14,7 @@ pub of_term-returns-in_ok-of_symbol-in-App : goal.of_term-returns-in_ok-of_symbo
 of_term-returns-in_ok-of_symbol-in-App t c =
     rw (c.in-App.is, indexes-app) (on_ok_weaker c.of_terms.result (λ later. collects_then c.in_ok-of_symbol-in-App.ensures later) c.of_terms.ensures)
 
-pub of_terms-loop-i-preserved : goal.of_terms-loop-i-preserved
-of_terms-loop-i-preserved t c =
-    rw (flat_map-got indexes_in (list_of c.args.ts.now) c.loop-i.i c.get.result.now c.get.ensures)
-    (collects_then c.loop-i.invariant c.in_ok-of_term.ensures)
+pub of_terms-loop-t-preserved : goal.of_terms-loop-t-preserved
+of_terms-loop-t-preserved t c =
+    rw (flat_map-got indexes_in (list_of c.args.ts.now) c.loop-t.t-index c.t-item.result (item_stands _ _ _ _ c.as_slice-t-items.ensures (omega arith) c.t-item.is))
+    (collects_then c.loop-t.invariant c.in_ok-of_term.ensures)

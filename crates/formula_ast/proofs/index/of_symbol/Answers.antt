@@ -6,7 +6,7 @@ pub returns-then-contains : goal.returns-then-contains
 returns-then-contains c =
     rw c.in-Further.is (collects_known c.args.met.now.items c.in-Further.k (rw (← c.deref.ensures.value) (sym c.contains.ensures.value ∙ c.if-contains.true)))
 
-pub returns-in-Ok : goal.returns-in-Ok
-returns-in-Ok c =
-    rw (c.in-Further.is, c.in-Ok.ensures.items)
+pub returns : goal.returns
+returns c =
+    rw (c.in-Further.is, c.in_ok-push.ensures.items)
     (collects_new c.args.met.now.items c.in-Further.k (rw (← c.deref.ensures.value) (sym c.contains.ensures.value ∙ c.if-contains.false)))

@@ -1,10 +1,8 @@
-use Rattle.std.proofs.Common.{◌≡◌, ◌++◌, ◌∷◌, [], sym}
 use Rattle.std.proofs.lemmas.Result.{on_ok_weaker}
 use Rattle.formula_ast.specs.Forms.{form_of}
 use Rattle.formula_ast.specs.Occurrences.{free_occurrences}
 use Rattle.formula_ast.proofs.Collected.{nothing_met, both_met, without_all-push}
 use Rattle.formula_ast.proofs.Occurring.{of_nothing, of_pair, of_call, of_not, of_bound, of_term, of_both}
-use Rattle.formula_ast.proofs.Lists.{pushed}
 use Rattle.formula_ast.proofs.free.Free.+formula.Goals as goal
 
 pub formula-returns-in-Call-clause-met : goal.formula-returns-in-Call-clause-met
@@ -38,6 +36,4 @@ formula-returns-in-Eq-clause-met t c = rw (of_pair c.args.f.now c.in-Eq.t c.in-E
 
 pub under-returns-clause-met : goal.under-returns-clause-met
 under-returns-clause-met t c =
-    let longer : c.push.new.self.items ≡ c.args.self.now.bound.items ++ c.args.x ∷ [] =
-    pushed c.args.self.now.bound.items c.args.x c.push.result c.push.ensures.items (sym c.if-is_err.ensures.value) in
-    rw (← without_all-push c.args.self.now.bound.items c.args.x, ← longer, ← c.get.ensures) c.in_ok-formula.ensures.met
+    rw (← without_all-push c.args.self.now.bound.items c.args.x, ← c.in_ok-push.ensures.items, ← c.get.ensures) c.in_ok-formula.ensures.met

@@ -5,8 +5,8 @@ use Rattle.formula_ast.specs.Occurrences.{variables_in}
 use Rattle.formula_ast.specs.Terms.{list_of}
 use Rattle.formula_ast.proofs.free.Free.+free.Given as goal
 
-abbrev pub invariant-terms-loop-i : goal.invariant-terms-loop-i
-invariant-terms-loop-i l = record {
+abbrev pub invariant-terms-loop-t : goal.invariant-terms-loop-t
+invariant-terms-loop-t l = record {
   bound : l.self.bound.items ≡ l.initial.self.bound.items;
-  met : Collects l.initial.self.met l.self.met (without_all l.initial.self.bound.items (flat_map variables_in (take l.i (list_of l.ts))));
+  met : Collects l.initial.self.met l.self.met (without_all l.initial.self.bound.items (flat_map variables_in (take l.t-index (list_of l.ts))));
 }
