@@ -5,7 +5,7 @@ mod cases;
 
 use super::*;
 use cases::{COUNT, LOOPS, RANDOM};
-use flat_form::{Args, Basic, Cube, Flat, Part, Parts};
+use flat_form::{Args, Basic, Cube, Flat, Part, Parts, is_same_cube};
 use lists::NoMemory;
 use std::alloc::Global;
 use std::test::*;
@@ -144,7 +144,7 @@ fn is_right(alloc: Global, text: &[u8], at: &mut usize) -> Result<bool, NoMemory
         b'+' => {
             let expected = cube(alloc, text, at)?;
             match found {
-                Some(reduced) => Ok(reduced.is_same(&expected)),
+                Some(reduced) => Ok(is_same_cube(&reduced, &expected)),
                 None => Ok(false),
             }
         }
