@@ -83,6 +83,3 @@ others_are xs kept flags first count end same is are v = (
   λ inside. let (a, b, n) = (are.is v).0 inside in (a, omega (arith, b, same), λ i. n ((is v).1 i)),
   λ (a, b, n). (are.is v).1 (a, omega (arith, b, same), λ p. n ((is v).0 p)),
 )
-
-pub not_set : (flags : List Bool) (v : ℕ) → get_or flags v false ≡ false → ¬ IsSet flags v
-not_set flags v e = λ p. let f : false ≡ true = sym e ∙ p in absurd (cc)

@@ -3,7 +3,6 @@ pub mod FlagsOf
 pub mod GroupedCube
 pub mod IsCleared
 pub mod IsOrdered
-pub mod ItemByItem
 pub mod KeptAtoms
 pub mod NewNumbers
 pub mod Outcomes

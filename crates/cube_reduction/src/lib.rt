@@ -7,11 +7,9 @@ mod numbers;
 mod over;
 mod pruning;
 mod reducing;
-mod sameness;
 mod settling;
 
 pub use reducing::reduce;
-pub use sameness::Same;
 
 #[cfg(test)]
 mod tests;

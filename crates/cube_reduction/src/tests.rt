@@ -5,15 +5,15 @@ mod cases;
 
 use super::*;
 use cases::{COUNT, LOOPS, RANDOM};
-use flat_form::{Args, Basic, Cube, Flat, Part, Parts};
-use lists::{List, NoMemory};
+use flat_form::{Args, Basic, Cube, Flat, Part, Parts, is_same_cube};
+use lists::NoMemory;
 use std::alloc::Global;
 use std::test::*;
 use tree_model::Symbol;
 
 // A cube is written as four digits, how many variables are free and how many outer, how many atoms follow and how many
 // parts. A part is two digits, how many variables are inner and how many atoms follow. An atom is `=` and two variables,
-// `!` and a variable, or a digit, a variable, a symbol and as many variables. The variables are `A`, `B`, ... A symbol is
+// `!` and a variable, or a digit up to two, a variable, a symbol and as many variables. The variables are `A`, `B`, ... A symbol is
 // a letter for a name or a digit for a further one.
 
 // The next byte, or a blank at the end.
@@ -53,14 +53,17 @@ fn term(
     text: &[u8],
     at: &mut usize,
     n: usize,
-    count: usize,
+    count: u8,
 ) -> Result<Flat, NoMemory>
     ensures { IfOk result (AtomOver n) }
 {
     let u = variable(text, at, n)?;
     let symbol = symbol(text, at);
     let mut args = Args::new(alloc);
-    for _ in 0..count.min(8) {
+    if count > b'0' {
+        args.push(variable(text, at, n)?)?;
+    }
+    if count > b'1' {
         args.push(variable(text, at, n)?)?;
     }
     Ok(Flat::VarTerm(u, symbol, args))
@@ -76,7 +79,7 @@ fn atom(alloc: Global, text: &[u8], at: &mut usize, n: usize) -> Result<Flat, No
             Ok(Flat::VarVar(u, v))
         }
         b'!' => Ok(Flat::Finite(variable(text, at, n)?)),
-        digit => term(alloc, text, at, n, digit.saturating_sub(b'0') as usize),
+        count => term(alloc, text, at, n, count),
     }
 }
 
@@ -90,8 +93,9 @@ fn basic(
     ensures { IfOk result (BasicOver n) }
 {
     let mut atoms = Basic::new(alloc);
-    for _ in 0..count {
-        atoms.push(atom(alloc, text, at, n)?)?;
+    for _place in 0..count {
+        let item = atom(alloc, text, at, n)?;
+        atoms.push(item)?;
     }
     Ok(atoms)
 }
@@ -120,8 +124,9 @@ fn cube(alloc: Global, text: &[u8], at: &mut usize) -> Result<Cube, NoMemory>
     };
     let basic = basic(alloc, text, at, m, count)?;
     let mut parts = Parts::new(alloc);
-    for _ in 0..part_count {
-        parts.push(part(alloc, text, at, m)?)?;
+    for _place in 0..part_count {
+        let item = part(alloc, text, at, m)?;
+        parts.push(item)?;
     }
     Ok(Cube {
         free,
@@ -139,7 +144,7 @@ fn is_right(alloc: Global, text: &[u8], at: &mut usize) -> Result<bool, NoMemory
         b'+' => {
             let expected = cube(alloc, text, at)?;
             match found {
-                Some(reduced) => Ok(reduced.is_same(&expected)),
+                Some(reduced) => Ok(is_same_cube(&reduced, &expected)),
                 None => Ok(false),
             }
         }

@@ -13,7 +13,7 @@ split-requires-clause-over c = added_over (c.args.raw.now.free + c.args.raw.now.
 pub others-requires-clause-among : goal.others-requires-clause-among
 others-requires-clause-among c =
     let scope_is : c.in-Some.scope ≡ c.args.raw.now.free + c.args.raw.now.outer = omega (arith, c.in-Some.ensures) in
-    lent_low c.args.raw.now c.args.form.now _ _ _ _ c.as_slice-determined.result.now c.in-Some.scope c.in_ok-outers.ensures scope_is c.as_slice-determined.ensures
+    lent_low c.args.raw.now c.args.form.now _ _ _ [] c.as_slice-determined.result.now c.in-Some.scope c.in_ok-outers.ensures scope_is c.as_slice-determined.ensures
 
 pub new-requires-clause-distinct : goal.new-requires-clause-distinct
 new-requires-clause-distinct c =

@@ -1,7 +1,8 @@
 use Rattle.std.proofs.Common.{ℕ, ◌≡◌, ◌<◌, ◌++◌, ◌∷◌, [], true, false, length, arith}
 use Rattle.reachability.specs.Flags.{IsSet}
 use Rattle.reachability.proofs.Flags.{flag_read}
-use Rattle.cube_reduction.proofs.FlagsOf.{not_set, others_more, others_same, others_are}
+use Rattle.reachability.proofs.Sorting.{not_set}
+use Rattle.cube_reduction.proofs.FlagsOf.{others_more, others_same, others_are}
 use Rattle.cube_reduction.proofs.grouping.others.Goals as goal
 use Rattle.cube_reduction.proofs.grouping.others.Goals.{then-not-index+in_ok-push, else-not-index}
 
@@ -12,7 +13,7 @@ loop-v-preserved c =
     let within : v < length flags = omega (arith, c.loop-v-test.true, c.in_ok-flags.ensures.size) in
     elim c.if-not-index.branch [
       | then-not-index+in_ok-push w ↦
-          others_more (λ u. ¬ IsSet flags u) c.args.first v c.loop-v.kept c.loop-v.invariant c.if-not-index.kept (cc (w.kept-is, w.in_ok-push.ensures)) (omega arith)
+          others_more (λ u. ¬ IsSet flags u) c.args.first v c.loop-v.kept c.loop-v.invariant c.if-not-index.kept (cc (w.kept-is, w.in_ok-push.ensures.ok)) (omega arith)
           (not_set flags v (flag_read flags v c.index.result.now false within c.index.ensures w.if-not-index.true))
       | else-not-index w ↦
           rw w.kept-is (others_same (λ u. ¬ IsSet flags u) c.args.first v c.loop-v.kept c.loop-v.invariant
