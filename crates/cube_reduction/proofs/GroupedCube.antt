@@ -46,8 +46,8 @@ module _ (raw : Cube) (form : List Flat) (needed idle determined kept : List ℕ
   stays : (v : ℕ) → v < raw.free + raw.outer → (number v < raw.free + length kept) ↔ (¬ Contains determined v)
   stays v low = (
     λ w d. let (a, b) = ((split.determined_is v).0 d).0 in
-    let high = number_behind raw.free (raw.free + raw.outer) kept determined (omega arith) covers v a b (λ k. ((kept_is v).0 k).2 d) in
-    omega (arith, high, w),
+        let high = number_behind raw.free (raw.free + raw.outer) kept determined (omega arith) covers v a b (λ k. ((kept_is v).0 k).2 d) in
+        omega (arith, high, w),
     λ n. front_number raw.free (raw.free + raw.outer) kept determined (omega arith) covers v low n,
   )
 
@@ -55,7 +55,7 @@ module _ (raw : Cube) (form : List Flat) (needed idle determined kept : List ℕ
   moves v low = (
     λ le. elim (stands_tells determined v) [ inl d ↦ d.1 | inr n ↦ let w = (stays v low).1 n.1 in absurd (omega (arith, w, le)) ],
     λ d. let (a, b) = ((split.determined_is v).0 d).0 in
-    number_behind raw.free (raw.free + raw.outer) kept determined (omega arith) covers v a b (λ k. ((kept_is v).0 k).2 d),
+        number_behind raw.free (raw.free + raw.outer) kept determined (omega arith) covers v a b (λ k. ((kept_is v).0 k).2 d),
   )
 
   -- the same atoms by another property that says the same of each
@@ -132,8 +132,8 @@ module _ (raw : Cube) (form : List Flat) (needed idle determined kept lent : Lis
         let one : IsRegrouped raw form (kept ++ determined) kept_size more mid = subst (λ (z : List ℕ). IsRegrouped raw form z kept_size more mid) again_e regrouped in
         let two : IsRegrouped raw form (kept ++ determined) (length kept) more mid = subst (λ (z : ℕ). IsRegrouped raw form (kept ++ determined) z more mid) size_e one in
         let three : IsRegrouped raw form (kept ++ determined) (length kept) (length determined) mid =
-          subst (λ (z : ℕ). IsRegrouped raw form (kept ++ determined) (length kept) z mid) (more_e ∙ ap length lent_is) two in
+        subst (λ (z : ℕ). IsRegrouped raw form (kept ++ determined) (length kept) z mid) (more_e ∙ ap length lent_is) two in
         let by_scope : f ≡ number_by raw (kept ++ determined) =
-          f_e ∙ ap (λ (z : ℕ). new_number raw.free z order) scope_is ∙ ap (λ (z : List ℕ). number_by raw z) order_e in
+        f_e ∙ ap (λ (z : ℕ). new_number raw.free z order) scope_is ∙ ap (λ (z : List ℕ). number_by raw z) order_e in
         grouped_is raw form needed idle determined kept split up kept_here over solved mid new_idle three
         (idle_are ∙ ap (map f) idle_e ∙ ap (λ (g : ℕ → ℕ). map g idle) by_scope)

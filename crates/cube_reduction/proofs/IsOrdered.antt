@@ -146,9 +146,13 @@ module _ (raw cube : Cube) (idle : List ℕ) (over : IsWellNumbered raw) (g : Is
           | inl there ↦ subst Q (sym g.free_is) (subst P e (reached ((g.split.needed_is w).0 there.1).1))
           | inr none ↦
               let unreached : ¬ FreeReaches raw.free g.form w = λ up. none.1 ((g.split.needed_is w).1 (outer.0, up)) in
-              absurd (outer.1 ((g.split.determined_is w).1 (outer.0, unreached, λ bare.
-                  busy (subst (λ (z : ℕ). Contains idle z) e (subst (λ (xs : List ℕ). Contains xs (number w)) (sym g.idle_are)
-                  (contains_map number g.idle_before w ((g.split.idle_is w).1 (outer.0, unreached, bare))))))))
+              absurd (outer.1 ((g.split.determined_is w).1 (
+                outer.0,
+                unreached,
+                λ bare.
+                    busy (subst (λ (z : ℕ). Contains idle z) e (subst (λ (xs : List ℕ). Contains xs (number w)) (sym g.idle_are)
+                    (contains_map number g.idle_before w ((g.split.idle_is w).1 (outer.0, unreached, bare))))),
+              )))
         ]
 
     pub rest_over : BasicOver (cube.free + cube.outer) rest

@@ -33,5 +33,5 @@ module _ (m count : ℕ) (added : List Flat) (marks : List Bool) (are : AreReach
       → IsPruned m added kept
   pruned_by lent lent_atoms kept same same_atoms up e =
       let is : kept ≡ filter (is_kept_by m marks) added =
-        e ∙ ap (λ (z : List Bool). filter (is_kept_by m z) lent_atoms) same ∙ ap (filter (is_kept_by m marks)) same_atoms in
+      e ∙ ap (λ (z : List Bool). filter (is_kept_by m z) lent_atoms) same ∙ ap (filter (is_kept_by m marks)) same_atoms in
       subst (IsPruned m added) (sym is) (filtered_is_pruned up)

@@ -31,12 +31,12 @@ module _ (f : ℕ → ℕ) (P : Flat → Type 0) (old all : List Flat) (is : IsR
     ascending = filtered_ascends test all is.ascending;
     is = λ atom. (
       λ i.
-      let (there, passes) = filtered_from test all atom i in
-      let (other, stands, p, e) = (is.is atom).0 there in
-      (other, stands, (same other stands).0 (p, ap test (sym e) ∙ passes), e),
+          let (there, passes) = filtered_from test all atom i in
+          let (other, stands, p, e) = (is.is atom).0 there in
+          (other, stands, (same other stands).0 (p, ap test (sym e) ∙ passes), e),
       λ (other, stands, q, e).
-      let (p, passes) = (same other stands).1 q in
-      filtered_all test all atom ((is.is atom).1 (other, stands, p, e)) (ap test e ∙ passes),
+          let (p, passes) = (same other stands).1 q in
+          filtered_all test all atom ((is.is atom).1 (other, stands, p, e)) (ap test e ∙ passes),
     );
   }
 
@@ -57,18 +57,18 @@ module _ (raw : Cube) (form : List Flat) (order : List ℕ) (kept more : ℕ) (o
       → IsRenumbering (number_by raw order) (λ atom. number (variable_of atom) < raw.free + kept) form (filter (λ atom. ltb (variable_of atom) m) all)
   rest_renumbered m m_is = some_renumbered (number_by raw order) _ form all is (λ atom. ltb (variable_of atom) m) _ (λ other i. (
     λ (p, passes). let e = variable_renumbered (number_by raw order) other in let t : ltb (variable_of (renumbered (number_by raw order) other)) m ≡ true = passes in
-    let low : variable_of (renumbered (number_by raw order) other) < m = grind (arith, nat_tests) in omega (arith, low, e, m_is),
+        let low : variable_of (renumbered (number_by raw order) other) < m = grind (arith, nat_tests) in omega (arith, low, e, m_is),
     λ low. let e = variable_renumbered (number_by raw order) other in
-    let below : variable_of (renumbered (number_by raw order) other) < m = omega (arith, low, e, m_is) in (listed other i, grind (arith, nat_tests)),
+        let below : variable_of (renumbered (number_by raw order) other) < m = omega (arith, low, e, m_is) in (listed other i, grind (arith, nat_tests)),
   ))
 
   moved_renumbered : (m : ℕ) → m ≡ raw.free + kept
       → IsRenumbering (number_by raw order) (λ atom. raw.free + kept ≤ number (variable_of atom)) form (filter (λ atom. leb m (variable_of atom)) all)
   moved_renumbered m m_is = some_renumbered (number_by raw order) _ form all is (λ atom. leb m (variable_of atom)) _ (λ other i. (
     λ (p, passes). let e = variable_renumbered (number_by raw order) other in let t : leb m (variable_of (renumbered (number_by raw order) other)) ≡ true = passes in
-    let high : m ≤ variable_of (renumbered (number_by raw order) other) = grind (arith, nat_tests) in omega (arith, high, e, m_is),
+        let high : m ≤ variable_of (renumbered (number_by raw order) other) = grind (arith, nat_tests) in omega (arith, high, e, m_is),
     λ high. let e = variable_renumbered (number_by raw order) other in
-    let above : m ≤ variable_of (renumbered (number_by raw order) other) = omega (arith, high, e, m_is) in (listed other i, grind (arith, nat_tests)),
+        let above : m ≤ variable_of (renumbered (number_by raw order) other) = omega (arith, high, e, m_is) in (listed other i, grind (arith, nat_tests)),
   ))
 
   pub regrouped_is : (m : ℕ) (basic moved : List Flat) (parts : List Part) (f : ℕ → ℕ) → m ≡ raw.free + kept → f ≡ number_by raw order

@@ -32,7 +32,7 @@ module _ (m : ℕ) (base : List Flat) where
     pub one_settled : (all after : List Part) (new : Part) → after ≡ all ++ new ∷ [] → SettlesTo m base part new → AreSettled parts i all → AreSettled parts (i + 1) after
     one_settled all after new e to are rest h =
         let next : Settles m base (drop i parts) (new ∷ rest) =
-          subst (λ (z : List Part). Settles m base z (new ∷ rest)) (sym here) (settled part new (drop (i + 1) parts) rest to h) in
+        subst (λ (z : List Part). Settles m base z (new ∷ rest)) (sym here) (settled part new (drop (i + 1) parts) rest to h) in
         let order : after ++ rest ≡ all ++ (new ∷ rest) = ap (λ (z : List Part). z ++ rest) e ∙ append_assoc all (new ∷ []) rest in
         subst (λ (z : List Part). Settles m base parts z) (sym order) (are (new ∷ rest) next)
 

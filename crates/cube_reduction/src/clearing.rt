@@ -77,12 +77,7 @@ fn atoms_without(alloc: Global, vs: &[usize], atoms: &[Flat]) -> Result<Basic, N
 }
 
 // The cube's basic without its idle variables, the others numbered by first occurrence.
-fn in_order(
-    alloc: Global,
-    mid: &Cube,
-    scope: usize,
-    idle: &[usize],
-) -> Result<Ordered, NoMemory>
+fn in_order(alloc: Global, mid: &Cube, scope: usize, idle: &[usize]) -> Result<Ordered, NoMemory>
     requires scope { scope ≡ mid.now.free + mid.now.outer }
     requires grouped { WasGrouped mid.now idle.now }
     ensures { IfOk result (λ found. IsOrdered mid.now idle.now found.order found.basic) }

@@ -40,12 +40,7 @@ fn flags_of(alloc: Global, count: usize, xs: &[usize]) -> Result<Vec<bool>, NoMe
 }
 
 // The variables from first on and below count that are not among these, in ascending order.
-fn others(
-    alloc: Global,
-    first: usize,
-    count: usize,
-    xs: &[usize],
-) -> Result<List<usize>, NoMemory>
+fn others(alloc: Global, first: usize, count: usize, xs: &[usize]) -> Result<List<usize>, NoMemory>
     requires low { first ≤ count }
     requires among { All (λ x. x < count) xs.now }
     ensures ascending { IfOk result IsStrictlyIncreasing }

@@ -88,12 +88,7 @@ impl Numbers {
     }
 
     // Puts the atoms behind the others, with new numbers.
-    fn push_all(
-        &self,
-        alloc: Global,
-        list: &mut Basic,
-        atoms: &[Flat],
-    ) -> Result<(), NoMemory>
+    fn push_all(&self, alloc: Global, list: &mut Basic, atoms: &[Flat]) -> Result<(), NoMemory>
         ensures { OnOk result (list.new ≡ list.old ++ map (renumbered (number_in self.now.table.items self.now.behind)) atoms.now) }
     {
         for atom in atoms {

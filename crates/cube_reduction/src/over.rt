@@ -31,11 +31,7 @@ pub(crate) fn copy_onto<T: Copied + Drop>(
 }
 
 // The solved form of the atoms, over so many variables. None where they have no solution.
-pub(crate) fn solved(
-    alloc: Global,
-    count: usize,
-    atoms: &Basic,
-) -> Result<Option<Basic>, NoMemory>
+pub(crate) fn solved(alloc: Global, count: usize, atoms: &Basic) -> Result<Option<Basic>, NoMemory>
     requires over { BasicOver count atoms.now }
     ensures { IfOk result (IsOutcome [] atoms.now) }
 {

@@ -48,13 +48,7 @@ fn symbol(text: &[u8], at: &mut usize) -> Symbol {
     }
 }
 
-fn term(
-    alloc: Global,
-    text: &[u8],
-    at: &mut usize,
-    n: usize,
-    count: u8,
-) -> Result<Flat, NoMemory>
+fn term(alloc: Global, text: &[u8], at: &mut usize, n: usize, count: u8) -> Result<Flat, NoMemory>
     ensures { IfOk result (AtomOver n) }
 {
     let u = variable(text, at, n)?;

@@ -32,8 +32,8 @@ returns-in-None c =
     subst (λ (z : Option (List Part)). MatchOption z ((part : Part) × Contains slice part × IsImplied count mid.basic part)
     (λ (all : List Part). Settles count mid.basic slice all × ((part : Part) → Contains all part → ¬ (part.basic ≡ [])))) c.in-None.is c.in_ok-first.ensures in
     λ raw grouped. Outcome.implied mid c.args.grouped.idle found.0 grouped
-        (subst (λ (z : List Part). Contains z found.0) c.as_slice.ensures found.1)
-        (subst (λ (z : ℕ). IsImplied z mid.basic found.0) c.in-Some.ensures.1 found.2)
+    (subst (λ (z : List Part). Contains z found.0) c.as_slice.ensures found.1)
+    (subst (λ (z : ℕ). IsImplied z mid.basic found.0) c.in-Some.ensures.1 found.2)
 
 pub returns-in_ok-cube-in-Some-2 : goal.returns-in_ok-cube-in-Some-2
 returns-in_ok-cube-in-Some-2 c =
