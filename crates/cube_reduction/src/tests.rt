@@ -147,30 +147,24 @@ fn is_right(alloc: Global, text: &[u8], at: &mut usize) -> Result<bool, NoMemory
     }
 }
 
-// How many of the lines are right.
-fn count_right(alloc: Global, text: &[u8], lines: usize) -> Result<usize, NoMemory> {
+// Whether each of so many lines is right.
+fn are_right(alloc: Global, text: &str, lines: usize) -> Result<bool, NoMemory> {
+    let text = text.as_bytes();
     let mut at = 0;
-    let mut count = 0;
+    let mut all = true;
     for _ in 0..lines {
-        if is_right(alloc, text, &mut at)? {
-            count += 1;
+        if !is_right(alloc, text, &mut at)? {
+            all = false;
         }
         let _ = next(text, &mut at);
     }
-    Ok(count)
+    Ok(all)
 }
 
 #[test]
 fn random_cubes_reduce_as_defined(rt: HostRuntime) -> Result<(), NoMemory> {
-    let right = count_right(rt.alloc(), RANDOM.as_bytes(), COUNT)?;
-    assert_eq!(rt; right, COUNT);
+    assert!(rt; are_right(rt.alloc(), RANDOM, COUNT)?);
     Ok(())
-}
-
-// Whether all of the lines are right.
-fn are_right(alloc: Global, text: &str, lines: usize) -> Result<bool, NoMemory> {
-    let right = count_right(alloc, text.as_bytes(), lines)?;
-    Ok(right == lines)
 }
 
 #[test]
