@@ -11,7 +11,7 @@ import tempfile
 RUNS = 30
 SIZES = (100, 400)
 FORMS = ('chain', 'backward', 'merged_last', 'merged_first')
-CRATES = ('classical', 'tree_model', 'tree_facts', 'flat_form', 'flat_facts', 'basic_solver')
+CRATES = ('lists', 'classical', 'tree_model', 'tree_facts', 'flat_form', 'flat_facts', 'basic_solver')
 
 PROGRAM = r'''//! Asserts equations one after another: `clock FORM COUNT`.
 #![tactic(auto)]
@@ -37,8 +37,8 @@ fn equation(alloc: Global, u: usize, v: usize) -> Result<Flat, NoMemory>
 }
 
 fn put(store: &mut Store, atom: &Flat) -> Result<(), NoMemory>
-    requires { AtomOver (open_in store.old) atom.now }
-    ensures { OnOk result (open_in store.new ≡ open_in store.old) }
+    requires { AtomOver (open_in store.old.scopes) atom.now }
+    ensures { OnOk result (open_in store.new.scopes ≡ open_in store.old.scopes) }
 {
     let _ = store.assert(atom)?;
     Ok(())
@@ -52,9 +52,9 @@ fn put_all(
     count: usize,
     ring: bool,
 ) -> Result<(), NoMemory>
-    requires room { start + count < open_in store.old }
+    requires room { start + count < open_in store.old.scopes }
     requires fits { start + count < usize.MAX }
-    ensures { OnOk result (open_in store.new ≡ open_in store.old) }
+    ensures { OnOk result (open_in store.new.scopes ≡ open_in store.old.scopes) }
 {
     for i in 0..count {
         let next = if ring && i + 1 == count { 0 } else { i + 1 };
@@ -66,9 +66,9 @@ fn put_all(
 
 // The equations of a chain, the last one first.
 fn put_back(alloc: Global, store: &mut Store, count: usize) -> Result<(), NoMemory>
-    requires room { count < open_in store.old }
+    requires room { count < open_in store.old.scopes }
     requires fits { count < usize.MAX }
-    ensures { OnOk result (open_in store.new ≡ open_in store.old) }
+    ensures { OnOk result (open_in store.new.scopes ≡ open_in store.old.scopes) }
 {
     for i in 0..count {
         let place = count - 1 - i;
@@ -98,9 +98,9 @@ fn put_both(
     left: usize,
     right: usize,
 ) -> Result<(), NoMemory>
-    requires room { left + right < open_in store.old }
+    requires room { left + right < open_in store.old.scopes }
     requires fits { left + right < usize.MAX }
-    ensures { OnOk result (open_in store.new ≡ open_in store.old) }
+    ensures { OnOk result (open_in store.new.scopes ≡ open_in store.old.scopes) }
 {
     put_all(alloc, store, 0, left, true)?;
     put_all(alloc, store, left, right, true)
@@ -164,7 +164,7 @@ FILES = {
 use Rattle.clock.proofs.put.Goals as goal
 
 pub returns : goal.returns
-returns c = (answer_keeps c.args.store.now c.assert.new.self c.args.atom.now c.in_ok-assert.field-0 c.in_ok-assert.ensures.answer).0
+returns c = (answer_keeps c.args.store.now.scopes c.assert.new.self.scopes c.args.atom.now c.in_ok-assert.field-0 c.in_ok-assert.ensures.answer).0
 ''',
 }
 for loop in ('put_all', 'put_back'):
@@ -173,7 +173,7 @@ use Rattle.basic_solver.specs.Stores.{open_in}
 use Rattle.clock.proofs.%s.Given as goal
 
 abbrev pub invariant-loop-i : goal.invariant-loop-i
-invariant-loop-i l = open_in l.store ≡ open_in l.initial.store
+invariant-loop-i l = open_in l.store.scopes ≡ open_in l.initial.store.scopes
 ''' % loop
 
 
