@@ -1,5 +1,5 @@
 -- Laws of joined, opened and denied cubes: what they mean, and that they are well numbered and fit, with no other symbols.
-use Rattle.std.specs.Prelude.{◌≡◌, ℕ, ◌+◌, ◌-◌, ◌≤◌, Contains, All, ◌↔◌, ◌++◌}
+use Rattle.std.specs.Prelude.{◌≡◌, ℕ, ◌-◌, ◌≤◌, Contains, All, ◌↔◌, ◌++◌}
 use Rattle.classical.specs.Classical.{Exists}
 use Rattle.tree_model.specs.Signatures.{Signature}
 use Rattle.tree_model.specs.Valuations.{Valuation}

@@ -5,7 +5,6 @@ ghost use Rattle.flat_form.specs.Solved.{Ascends};
 ghost use Rattle.finiteness.specs.Marks.{IsBareIn, IsLeafAt};
 
 use crate::lookup::term_place;
-use crate::pushing::push;
 use crate::search::Mark;
 use flat_form::{Args, Basic, Flat};
 use std::alloc::Global;
@@ -16,11 +15,10 @@ fn gather(b: &Basic, xs: &Args, found: &mut Vec<usize>) -> Result<(), NoMemory>
     requires { Ascends b.now }
     ensures { OnOk result ((u : ℕ) → Contains found.new.items u ↔ (Contains found.old.items u ⊎ IsBareIn b.now xs.now u)) }
 {
-    for i in 0..xs.len() {
-        let x = *xs.get(i);
+    for &x in xs.as_slice() {
         match term_place(b, x) {
             Some(_) => {}
-            None => push(found, x)?,
+            None => found.push(x)?,
         }
     }
     Ok(())

@@ -3,7 +3,6 @@
 
 mod leaves;
 mod lookup;
-mod pushing;
 mod search;
 mod spread;
 

@@ -9,7 +9,6 @@ ghost use Rattle.finiteness.specs.Marks.{HasMark, IsSettled, AllAreSettled, IsOn
 ghost use Rattle.finiteness.specs.Found.{IsFound};
 
 use crate::lookup::term_place;
-use crate::pushing::push;
 use flat_form::{Basic, Flat};
 use std::alloc::Global;
 use tree_model::{NoMemory, Places};
@@ -77,10 +76,7 @@ fn onward(b: &Basic, marks: &[Mark], at: Turn) -> Option<Turn>
 fn all_new(alloc: Global, count: usize) -> Result<Vec<Mark>, NoMemory>
     ensures { IfOk result (λ marks. marks.items ≡ replicate count New) }
 {
-    match vec![in alloc; Mark::New; count] {
-        Ok(marks) => Ok(marks),
-        Err(_) => Err(NoMemory),
-    }
+    Ok(vec![in alloc; Mark::New; count]?)
 }
 
 // The arguments along which the walk leads.
@@ -114,7 +110,7 @@ pub(crate) fn search(alloc: Global, b: &Basic, start: usize) -> Result<Found, No
                     place: top.place,
                     argument: next.argument,
                 };
-                push(&mut walk, turn)?;
+                walk.push(turn)?;
                 if let Mark::Open = marks[next.place] {
                     return Ok(Found::Round(path(alloc, walk.as_slice())?));
                 }

@@ -44,9 +44,8 @@ fn place_args(alloc: Global, xs: &Args, args: &Places, scope: usize) -> Result<A
     ensures { IfOk result (λ made. made ≡ map (placed args.now scope) xs.now) }
 {
     let mut made = Args::new(alloc);
-    for i in 0..xs.len() {
-        let number = place(*xs.get(i), args, scope)?;
-        made.push(number)?;
+    for &x in xs.as_slice() {
+        made.push(place(x, args, scope)?)?;
     }
     Ok(made)
 }
@@ -55,9 +54,8 @@ fn place_basic(alloc: Global, basic: &Basic, args: &Places, scope: usize) -> Res
     ensures { IfOk result (λ made. made ≡ map (renumbered (placed args.now scope)) basic.now) }
 {
     let mut made = Basic::new(alloc);
-    for i in 0..basic.len() {
-        let atom = place_atom(alloc, basic.get(i), args, scope)?;
-        made.push(atom)?;
+    for atom in basic.as_slice() {
+        made.push(place_atom(alloc, atom, args, scope)?)?;
     }
     Ok(made)
 }
@@ -73,8 +71,7 @@ fn deny_parts(
     ensures { IfOk result (λ made. norms_of made ≡ denied_parts (placed args.now scope) parts.now) }
 {
     let mut made = Normals::new(alloc);
-    for i in 0..parts.len() {
-        let part = parts.get(i);
+    for part in parts.as_slice() {
         let basic = place_basic(alloc, &part.basic, args, scope)?;
         made.push(Normal {
             bound: part.inner,
@@ -110,9 +107,8 @@ pub(crate) fn deny_all(
     ensures { IfOk result (λ made. norms_of made ≡ all_denied args.now scope cubes.now) }
 {
     let mut made = Normals::new(alloc);
-    for i in 0..cubes.len() {
-        let denied = deny(alloc, cubes.get(i), args, scope)?;
-        made.push(denied)?;
+    for cube in cubes.as_slice() {
+        made.push(deny(alloc, cube, args, scope)?)?;
     }
     Ok(made)
 }

@@ -27,8 +27,8 @@ impl Numbers {
         let mut numbers = Numbers {
             given: Vec::new(alloc),
         };
-        for rank in 0..ranks.len() {
-            numbers.give(*ranks.get(rank), rank)?;
+        for (rank, &variable) in ranks.as_slice().iter().enumerate() {
+            numbers.give(variable, rank)?;
         }
         Ok(numbers)
     }
@@ -38,10 +38,8 @@ impl Numbers {
         ensures ok { OnOk result (self.new ≡ self.old ++ (variable, number) ∷ []) }
         ensures err { OnErr result (self.new ≡ self.old) }
     {
-        match self.given.push((variable, number)) {
-            Ok(()) => Ok(()),
-            Err(_) => Err(NoMemory),
-        }
+        self.given.push((variable, number))?;
+        Ok(())
     }
 
     // Takes back the number that was given last.

@@ -66,10 +66,8 @@ impl Solved {
         ensures ok { OnOk result (self.new ≡ self.old ++ (key, cubes) ∷ []) }
         ensures err { OnErr result (self.new ≡ self.old) }
     {
-        match self.entries.push((key, cubes)) {
-            Ok(()) => Ok(()),
-            Err(_) => Err(NoMemory),
-        }
+        self.entries.push((key, cubes))?;
+        Ok(())
     }
 
     /// The cubes of a key. It takes no memory.

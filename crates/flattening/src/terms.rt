@@ -57,8 +57,8 @@ pub(crate) fn behind_terms(terms: &Terms, next: usize) -> Result<usize, NoMemory
     ensures { IfOk result (λ after. after ≡ next + wides (terms_of (list_of terms.now))) }
 {
     let mut after = next;
-    for i in 0..terms.len() {
-        after = behind_term(terms.get(i), after)?;
+    for term in terms.as_slice() {
+        after = behind_term(term, after)?;
     }
     Ok(after)
 }
@@ -102,8 +102,7 @@ fn arguments_of(
 {
     let mut args = Args::new(alloc);
     let mut after = next;
-    for i in 0..terms.len() {
-        let term = terms.get(i);
+    for term in terms.as_slice() {
         args.push(number_of(term, given, after))?;
         after = behind_itself(term, after)?;
     }
@@ -152,8 +151,7 @@ fn add_deeper(
 {
     let mut left = first;
     let mut after = next;
-    for i in 0..terms.len() {
-        let term = terms.get(i);
+    for term in terms.as_slice() {
         after = add_equations(alloc, left, term, given, after, basic)?;
         left = behind_itself(term, left)?;
     }
@@ -211,8 +209,8 @@ pub(crate) fn add_wholes(
     ensures atoms { OnOk result (basic.new ≡ basic.old ++ wholes (number_by given.now) next (terms_of (list_of terms.now))) }
 {
     let mut after = next;
-    for i in 0..terms.len() {
-        after = add_whole(alloc, terms.get(i), given, after, basic)?;
+    for term in terms.as_slice() {
+        after = add_whole(alloc, term, given, after, basic)?;
     }
     Ok(after)
 }
@@ -228,8 +226,7 @@ pub(crate) fn numbers_of(
 {
     let mut made = Places::new(alloc);
     let mut after = next;
-    for i in 0..terms.len() {
-        let term = terms.get(i);
+    for term in terms.as_slice() {
         made.push(number_of(term, given, after))?;
         after = behind_term(term, after)?;
     }

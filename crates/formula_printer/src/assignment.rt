@@ -14,9 +14,10 @@ use crate::formula::write_opening;
 use crate::names::all_names;
 use crate::words::{write_symbol, write_text, write_variable};
 use formula_ast::Names;
+use lists::NoMemory;
 use signature::Signature;
 use std::alloc::Global;
-use tree_model::{Assignment, NoMemory, Node, Places};
+use tree_model::{Assignment, Node, Places};
 
 // Writes the symbol of a node and the names of its children.
 fn write_application(
@@ -33,9 +34,9 @@ fn write_application(
     if node.children.len() == 0 {
         return Ok(());
     }
-    for i in 0..node.children.len() {
+    for (i, &child) in node.children.as_slice().iter().enumerate() {
         write_opening(i, out)?;
-        write_variable(names, *node.children.get(i), out)?;
+        write_variable(names, child, out)?;
     }
     write_text(")", out)
 }
@@ -80,8 +81,8 @@ fn write_nodes(
     requires nodes { All (NodeHasWords sig.now (length names.now)) nodes.now }
     ensures { OnOk result (string_bytes out.new ≡ string_bytes out.old ++ all_text sig.now names.now (node_equations 0 nodes.now)) }
 {
-    for i in 0..nodes.len() {
-        write_node(sig, names, i, &nodes[i], out)?;
+    for (i, node) in nodes.iter().enumerate() {
+        write_node(sig, names, i, node, out)?;
     }
     Ok(())
 }
@@ -112,8 +113,8 @@ fn write_roots(
 {
     // that no number of a name is past the type's end is told by its length
     let _ = names.len();
-    for i in 0..roots.len() {
-        write_root(names, n + i, *roots.get(i), out)?;
+    for (i, &root) in roots.as_slice().iter().enumerate() {
+        write_root(names, n + i, root, out)?;
     }
     Ok(())
 }

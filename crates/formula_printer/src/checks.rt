@@ -51,8 +51,8 @@ fn is_name(text: &str) -> bool
 fn are_variables(names: &Names) -> bool
     ensures { OnTrue result (AreWords TokenKind.Variable names.now) }
 {
-    for i in 0..names.len() {
-        if !is_variable(names.get(i)) {
+    for name in names.as_slice() {
+        if !is_variable(name.as_str()) {
             return false;
         }
     }
@@ -76,7 +76,7 @@ fn is_new(names: &Names, i: usize) -> bool
     ensures { OnTrue result ((j : ℕ) → j < i → text_at names.now j ≢ text_at names.now i) }
 {
     for j in 0..i {
-        if names.get(j) == names.get(i) {
+        if names.get(j).as_str() == names.get(i).as_str() {
             return false;
         }
     }
@@ -146,8 +146,8 @@ fn term_fits(sig: &Signature, n: usize, t: &Term) -> bool
 fn terms_fit(sig: &Signature, n: usize, ts: &Terms) -> bool
     ensures { OnTrue result (All (TermFits sig.now n) (list_of ts.now)) }
 {
-    for i in 0..ts.len() {
-        if !term_fits(sig, n, ts.get(i)) {
+    for t in ts.as_slice() {
+        if !term_fits(sig, n, t) {
             return false;
         }
     }

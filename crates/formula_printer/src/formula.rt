@@ -12,9 +12,9 @@ ghost use Rattle.formula_printer.specs.Writing.{placed, text_at, written, writte
 
 use crate::words::{write_name, write_number, write_symbol, write_text, write_variable};
 use formula_ast::{Formula, Names, Term, Terms};
+use lists::NoMemory;
 use signature::Signature;
 use std::alloc::Global;
-use tree_model::NoMemory;
 
 // Writes a term.
 #[cycle(term)]
@@ -56,9 +56,9 @@ fn write_arguments(
     if ts.len() == 0 {
         return Ok(());
     }
-    for i in 0..ts.len() {
+    for (i, t) in ts.as_slice().iter().enumerate() {
         write_opening(i, out)?;
-        write_term(sig, names, ts.get(i), out)?;
+        write_term(sig, names, t, out)?;
     }
     write_text(")", out)
 }

@@ -5,9 +5,9 @@ ghost use Rattle.formula_printer.specs.Assignments as spec;
 ghost use Rattle.formula_printer.specs.Assignments.{fresh_names};
 
 use crate::words::{write_number, write_text};
-use formula_ast::Names;
+use formula_ast::{Name, Names};
+use lists::{Copied, NoMemory};
 use std::alloc::Global;
-use tree_model::NoMemory;
 
 // `V` and a number.
 fn counted(alloc: Global, k: usize) -> Result<String, NoMemory>
@@ -23,8 +23,8 @@ fn counted(alloc: Global, k: usize) -> Result<String, NoMemory>
 fn is_among(name: &str, names: &Names) -> bool
     ensures { result ≡ checks.is_among name.now names.now }
 {
-    for i in 0..names.len() {
-        if names.get(i) == name {
+    for other in names.as_slice() {
+        if other.as_str() == name {
             return true;
         }
     }
@@ -49,7 +49,7 @@ fn add_counted(
     if is_among(name.as_str(), names) {
         return Ok(());
     }
-    found.push(name)
+    found.push(Name::new(name))
 }
 
 // The names of n nodes.
@@ -70,11 +70,8 @@ fn node_names(alloc: Global, names: &Names, n: usize) -> Result<Names, NoMemory>
 fn add_copies(alloc: Global, names: &Names, found: &mut Names) -> Result<(), NoMemory>
     ensures { OnOk result (found.new ≡ found.old ++ names.now) }
 {
-    for i in 0..names.len() {
-        match String::from_str(alloc, names.get(i)) {
-            Ok(name) => found.push(name)?,
-            Err(_) => return Err(NoMemory),
-        }
+    for name in names.as_slice() {
+        found.push(name.copy(alloc)?)?;
     }
     Ok(())
 }

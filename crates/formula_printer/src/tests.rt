@@ -1,6 +1,6 @@
 use super::*;
 use crate::checks::{are_names, formula_fits};
-use formula_ast::{Formula, Names, Term, Terms};
+use formula_ast::{Formula, Name, Names, Term, Terms};
 use signature::{Kind, Signature};
 use sqlite_items::Boxed;
 use std::alloc::Global;
@@ -9,7 +9,7 @@ use tree_model::{Assignment, NoMemory, Node, Places, Symbol};
 
 // A name in a list.
 fn add(alloc: Global, names: &mut Names, name: &str) -> Result<(), Fail> {
-    names.push(String::from_str(alloc, name)?)?;
+    names.push(Name::new(String::from_str(alloc, name)?))?;
     Ok(())
 }
 

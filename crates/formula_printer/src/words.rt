@@ -6,17 +6,16 @@ ghost use Rattle.formula_printer.specs.Writing.{names_of, symbol_text, text_at};
 
 use formula_ast::Names;
 use itoa::Buffer;
+use lists::NoMemory;
 use signature::Signature;
-use tree_model::{NoMemory, Symbol};
+use tree_model::Symbol;
 
 // Writes a text.
 pub(crate) fn write_text(text: &str, out: &mut String) -> Result<(), NoMemory>
     ensures { OnOk result (string_bytes out.new ≡ string_bytes out.old ++ text.now) }
 {
-    match out.push_str(text) {
-        Ok(()) => Ok(()),
-        Err(_) => Err(NoMemory),
-    }
+    out.push_str(text)?;
+    Ok(())
 }
 
 // Writes a number in decimal digits.
@@ -32,7 +31,7 @@ pub(crate) fn write_variable(names: &Names, x: usize, out: &mut String) -> Resul
     requires { x < length names.now }
     ensures { OnOk result (string_bytes out.new ≡ string_bytes out.old ++ text_at names.now x) }
 {
-    write_text(names.get(x), out)
+    write_text(names.get(x).as_str(), out)
 }
 
 // Writes a declared name.

@@ -102,8 +102,8 @@ fn write_formula(shown: &mut String, formula: &Formula) -> Result<(), AllocError
 // The names of a statement's variables, and its formula.
 fn write_statement(shown: &mut String, statement: &Statement) -> Result<(), AllocError> {
     write!(shown, "[")?;
-    for number in 0..statement.names.len() {
-        write!(shown, "{} ", statement.names.get(number))?;
+    for name in statement.names.as_slice() {
+        write!(shown, "{} ", name.as_str())?;
     }
     write!(shown, "] ")?;
     write_formula(shown, &statement.body)

@@ -6,7 +6,7 @@ ghost use Rattle.formula_grammar.specs.Meaning as meaning;
 ghost use Rattle.formula_grammar.specs.Meaning.{first_occurrences};
 
 use crate::ReadError;
-use formula_ast::Names;
+use formula_ast::{Name, Names};
 use indexmap::IndexSet;
 use std::alloc::Global;
 use std::marker::Model;
@@ -63,7 +63,7 @@ impl Variables {
     {
         let mut names = Names::new(alloc);
         for text in self.texts {
-            names.push(text)?;
+            names.push(Name::new(text))?;
         }
         Ok(names)
     }

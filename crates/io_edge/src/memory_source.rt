@@ -1,8 +1,8 @@
 // A source over memory.
-ghost use Rattle.std.specs.Prelude.{◌≡◌, ◌≤◌, ◌<◌, ◌++◌, [], ◌∷◌, false, length, take, drop, min, OnOk, OnErr, MatchOption, Some, None};
+ghost use Rattle.std.specs.Prelude.{◌≡◌, ◌≤◌, ◌<◌, ◌++◌, [], ◌∷◌, false, length, take, min, OnOk, OnErr, MatchOption, Some, None};
 ghost use Rattle.io_edge.specs.Edge.{bytes_named};
 ghost use Rattle.io_edge.specs.Memory.{Opens, Reads};
-ghost use Rattle.io_edge.specs.Stored.{contents, bytes_at};
+ghost use Rattle.io_edge.specs.Stored.{contents, bytes_at, KeepsBehind};
 
 use crate::stored::StoredFile;
 use crate::{Failed, Source};
@@ -111,7 +111,7 @@ fn place_of(files: &[StoredFile], name: &str) -> Option<usize>
 fn copy_front(rest: &[u8], into: &mut [u8], most: usize) -> usize
     ensures count { result ≡ min most (min (length into.old) (length rest.now)) }
     ensures bytes { take result into.new ≡ take result rest.now }
-    ensures behind { drop result into.new ≡ drop result into.old }
+    ensures behind { KeepsBehind result into.old into.new }
 {
     let count = most.min(into.len()).min(rest.len());
     into[..count].copy_from_slice(&rest[..count]);

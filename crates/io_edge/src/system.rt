@@ -3,7 +3,7 @@
 ghost use Rattle.std.specs.Prelude.{◌≡◌, ◌<◌, ◌≤◌, [], Some, false, length, drop, IfOk, OnErr};
 ghost use Rattle.std.specs.Io.{ReadsAtMost, WritesAtMost};
 ghost use Rattle.std.specs.Io.KnownBytes.{ReadConsumes, WriteAppends};
-ghost use Rattle.io_edge.specs.Counts.{after_answer};
+ghost use Rattle.io_edge.specs.Counts.{next, after_answer};
 
 use crate::{Failed, Sink, Source};
 use std::fs::OpenOptions;
@@ -48,6 +48,15 @@ impl<R: Files> FileSource<R> {
     }
 }
 
+// Counts one failure more, and answers it.
+fn counted(faults: &mut u64) -> Failed
+    ensures rises { faults.new ≡ next faults.old }
+    ensures count { faults.old ≤ faults.new }
+{
+    *faults = faults.saturating_add(1);
+    Failed
+}
+
 // A read of a file, by way of a buffer of its own: a reader may write anywhere in the one that it is lent.
 pub(crate) fn read_counted<F: Read>(
     file: &mut F,
@@ -68,10 +77,7 @@ pub(crate) fn read_counted<F: Read>(
             into[..count].copy_from_slice(&piece[..count]);
             Ok(count)
         }
-        Err(_) => {
-            *faults = faults.saturating_add(1);
-            Err(Failed)
-        }
+        Err(_) => Err(counted(faults)),
     }
 }
 
@@ -98,10 +104,7 @@ impl<R: Files> Source for FileSource<R> {
                 self.file = Some(file);
                 Ok(())
             }
-            Err(_) => {
-                self.faults = self.faults.saturating_add(1);
-                Err(Failed)
-            }
+            Err(_) => Err(counted(&mut self.faults)),
         }
     }
 
@@ -123,10 +126,7 @@ fn write_counted<W: Write>(stream: &mut W, faults: &mut u64, from: &[u8]) -> Res
 {
     match stream.write(from) {
         Ok(count) if count > 0 || from.is_empty() => Ok(count),
-        _ => {
-            *faults = faults.saturating_add(1);
-            Err(Failed)
-        }
+        _ => Err(counted(faults)),
     }
 }
 

@@ -1,3 +1,5 @@
+ghost use Rattle.std.specs.Prelude.{◌≤◌, IfOk};
+
 use crate::system::read_counted;
 use crate::{ErrSink, Failed, FileSource, MemorySink, MemorySource, OutSink, Sink, Source};
 use std::alloc::Global;
@@ -174,7 +176,9 @@ struct Flaky {
 }
 
 impl Flaky {
-    fn next(&mut self, most: usize) -> io::Result<usize> {
+    fn next(&mut self, most: usize) -> io::Result<usize>
+        ensures { IfOk result (λ n. n ≤ most) }
+    {
         let call = self.calls;
         self.calls = call.saturating_add(1);
         match call {

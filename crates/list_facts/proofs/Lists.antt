@@ -22,7 +22,8 @@ use Rattle.cube_facts.proofs.Raws.{raws_are_well_numbered, raws_fit}
 use Rattle.step_facts.specs.Lists.{KeepsFirst, IsAnd, DeniesEach, IsNot, IsExists, IsJoined, IsClosed}
 use Rattle.list_facts.specs.Lists.{AreRaw, AreReduced, AreRawLists, EachHolds, OrMeans}
 use Rattle.list_facts.proofs.Some.{some_stable, some_of, in_some, from_some}
-use Rattle.list_facts.proofs.Takes.{Over, distinct_more, steps_mean, steps_reduced}
+use Rattle.step_facts.proofs.Cleared.{distinct_more}
+use Rattle.list_facts.proofs.Takes.{Over, steps_mean, steps_reduced}
 
 pub raw_of : (σ : Signature) (n : ℕ) (cubes : List Cube) → AreReduced σ n cubes → AreRaw σ n cubes
 raw_of σ n cubes are = record { over = are.over; fit = are.fit }

@@ -6,17 +6,14 @@ use Rattle.tree_model.specs.Signatures.{Signature, IsRoot}
 use Rattle.tree_facts.proofs.Members.{contains_first, contains_later, contains_cases}
 use Rattle.tree_facts.proofs.Renumbering.{contains_image}
 use Rattle.flat_form.specs.declared.atom.Flat.{Flat}
-use Rattle.flat_form.specs.declared.cube.Part.{Part}
 use Rattle.flat_form.specs.declared.cube.Cube.{Cube}
 use Rattle.flat_form.specs.Normals.{Norm, Norms, norm, none, also}
 use Rattle.flat_form.specs.Fitting.{CubeFits, NormFits, NormsFit}
-use Rattle.flat_form.specs.Parts.{renumbered}
 use Rattle.flat_form.specs.Symbols.{CubesFit}
-use Rattle.flat_form.specs.Orders.{renumbered_part}
 use Rattle.flat_form.specs.Steps.{Outcome}
-use Rattle.flat_form.specs.Raws.{raised, joined, opened, denied}
-use Rattle.flat_form.proofs.Symbols.{Fit, PartsFit, IsFit, fit, cube_fit, cube_fits, flat_from}
-use Rattle.cube_facts.proofs.Fits.{both_fit, map_fits, none_fit, moved_parts_fit}
+use Rattle.flat_form.specs.Raws.{joined, opened, denied}
+use Rattle.flat_form.proofs.Symbols.{Fit, IsFit, fit, cube_fit, cube_fits, flat_from}
+use Rattle.cube_facts.proofs.Raws.{joined_fit, opened_fit, lone_fit, denied_fit}
 use Rattle.step_facts.specs.Lists.{TakesSteps, KeepsFirst, IsAnd, DeniesEach, IsNot, IsExists, IsFirst, IsJoined, IsClosed, IsPlain, PlainLists}
 use Rattle.step_facts.proofs.StepFits.{outcome_fit}
 use Rattle.step_facts.proofs.OneOutcome.{outcome_is_one}
@@ -133,62 +130,26 @@ module _ (σ : Signature) where
 
   -- the raw cubes
 
-  both_parts : (xs ys : List Part) → PartsFit (IsRoot σ) xs → PartsFit (IsRoot σ) ys → PartsFit (IsRoot σ) (xs ++ ys)
-  both_parts xs ys f g = record { each = λ part i. elim (Contains-append_cases xs ys part i) [ inl j ↦ f.each part j | inr j ↦ g.each part j ] }
-
-  joined_good : (left right : Cube) → Good left → Good right → Good (joined left right)
-  joined_good left right f g =
-      let at_left : ℕ → ℕ = raised (left.free + left.outer) right.outer in
-      let at_right : ℕ → ℕ = raised left.free left.outer in
-      record {
-        basic = both_fit (IsRoot σ) left.basic (map (renumbered at_right) right.basic) f.basic (map_fits (IsRoot σ) at_right right.basic g.basic);
-        parts = both_parts (map (renumbered_part at_left 0) left.parts) (map (renumbered_part at_right 0) right.parts)
-            (moved_parts_fit (IsRoot σ) at_left 0 left.parts f.parts) (moved_parts_fit (IsRoot σ) at_right 0 right.parts g.parts);
-      }
-
   pairs_good : (left right : List Cube) → AllGood left → AllGood right → AllGood (flat_map (λ one. map (joined one) right) left)
   pairs_good left right f g = record {
     each = λ cube i.
         let (one, here, j) = flat_from (λ (one : Cube). map (joined one) right) left cube i in
         let (other, there, same) = contains_image (joined one) right cube j in
-        subst Good same (joined_good one other (f.each one here) (g.each other there));
+        subst Good same (joined_fit (IsRoot σ) one other (f.each one here) (g.each other there));
   }
 
   opened_good : (n : ℕ) (cubes : List Cube) → AllGood cubes → AllGood (map (opened n) cubes)
   opened_good n cubes f = record {
     each = λ cube i.
         let (one, here, same) = contains_image (opened n) cubes cube i in
-        subst Good same (let it : Good (opened n one) = record { basic = (f.each one here).basic; parts = (f.each one here).parts } in it);
+        subst Good same (opened_fit (IsRoot σ) n one (f.each one here));
   }
-
-  nothing_good : (n m : ℕ) (basic : List Flat) → Fit (IsRoot σ) basic → Good (record { free = n; outer = m; basic = basic; parts = [] })
-  nothing_good n m basic f = record { basic = f; parts = none_fit (IsRoot σ) }
 
   empty_fit : Fit (IsRoot σ) []
   empty_fit = record { each = λ u symbol xs i. absurd (omega (arith, i.1)) }
 
-  abbrev beside : Cube → Part → Cube
-  beside cube part = record { free = cube.free; outer = cube.outer + part.inner; basic = cube.basic ++ part.basic; parts = [] }
-
-  one_part : (part : Part) → Fit (IsRoot σ) part.basic → PartsFit (IsRoot σ) (part ∷ [])
-  one_part part f = record {
-    each = λ other i. elim (contains_cases part other [] i) [
-      | inl e ↦ subst (λ (z : Part). Fit (IsRoot σ) z.basic) e f
-      | inr j ↦ absurd (omega (arith, j.1))
-    ];
-  }
-
   denied_good : (cube : Cube) → Good cube → AllGood (denied cube)
-  denied_good cube f =
-      let whole : Part = record { inner = cube.outer; basic = cube.basic } in
-      more_good (record { free = cube.free; outer = 0; basic = []; parts = whole ∷ [] }) (map (beside cube) cube.parts)
-      (record { basic = empty_fit; parts = one_part whole f.basic })
-      (record {
-        each = λ raw i.
-            let (part, here, same) = contains_image (beside cube) cube.parts raw i in
-            subst Good same (nothing_good cube.free (cube.outer + part.inner) (cube.basic ++ part.basic)
-            (both_fit (IsRoot σ) cube.basic part.basic f.basic (f.parts.each part here)));
-      })
+  denied_good cube f = record { each = λ raw i. denied_fit (IsRoot σ) cube raw f i }
 
   -- the lists
 
@@ -216,7 +177,7 @@ module _ (σ : Signature) where
       (tail_good cube rest g) more
 
   start_good : (n : ℕ) → AllGood (record { free = n; outer = 0; basic = []; parts = [] } ∷ [])
-  start_good n = more_good (record { free = n; outer = 0; basic = []; parts = [] }) [] (nothing_good n 0 [] empty_fit) none_good
+  start_good n = more_good (record { free = n; outer = 0; basic = []; parts = [] }) [] (lone_fit (IsRoot σ) n 0 [] empty_fit) none_good
 
   not_one : (n : ℕ) (cubes one other : List Cube) → AllGood cubes → IsNot n cubes one → IsNot n cubes other → one ≡ other
   not_one n cubes one other f a b = denies_one cubes (record { free = n; outer = 0; basic = []; parts = [] } ∷ []) one other (start_good n) f a b
@@ -264,7 +225,7 @@ module _ (σ : Signature) where
       (takes_good [] (map (opened bound) cubes) shut none_good (opened_good bound cubes f) exists) denies
 
   first_raw : (n bound : ℕ) (basic : List Flat) → Fit (IsRoot σ) basic → AllGood (record { free = n + bound; outer = 0; basic = basic; parts = [] } ∷ [])
-  first_raw n bound basic f = more_good (record { free = n + bound; outer = 0; basic = basic; parts = [] }) [] (nothing_good (n + bound) 0 basic f) none_good
+  first_raw n bound basic f = more_good (record { free = n + bound; outer = 0; basic = basic; parts = [] }) [] (lone_fit (IsRoot σ) (n + bound) 0 basic f) none_good
 
   first_one : (n bound : ℕ) (basic : List Flat) (one other : List Cube) → Fit (IsRoot σ) basic → IsFirst n bound basic one → IsFirst n bound basic other → one ≡ other
   first_one n bound basic one other f a b =

@@ -1,6 +1,6 @@
 -- The steps taken on each raw cube of a list.
 use Rattle.std.specs.Prelude.{Contains, All, Some, None}
-use Rattle.std.proofs.Common.{ℕ, ◌≡◌, List, [], ◌∷◌, ◌++◌, sym, ◌∙◌, subst, arith, inl, inr, ◌⊎◌}
+use Rattle.std.proofs.Common.{ℕ, ◌≡◌, List, [], ◌∷◌, ◌++◌, ◌∙◌, subst, arith, inl, inr, ◌⊎◌}
 use Rattle.std.proofs.lemmas.List.Elements.{All-contains, Contains-append_cases, Contains-append_left, Contains-append_right}
 use Rattle.lists.specs.Distinct.{IsDistinct}
 use Rattle.tree_model.specs.Signatures.{Signature}
@@ -14,27 +14,15 @@ use Rattle.flat_form.specs.Reduced.{IsReduced}
 use Rattle.flat_form.specs.Steps.{Outcome}
 use Rattle.flat_form.proofs.Symbols.{each_of}
 use Rattle.step_facts.specs.Lists.{TakesSteps}
+use Rattle.step_facts.proofs.Cleared.{distinct_more}
 use Rattle.step_facts.proofs.StepFits.{outcome_fits}
 use Rattle.step_facts.proofs.OutcomeMeans.{outcome_means}
-use Rattle.step_facts.proofs.ReducedOutcomes.{outcome_is_reduced}
+use Rattle.step_facts.proofs.ReducedOutcomes.{outcome_is_over, outcome_is_reduced}
 use Rattle.list_facts.specs.Lists.{AreRaw, AreReduced, StepsMean}
 use Rattle.list_facts.proofs.Some.{in_some, from_some}
 
 abbrev pub Over : ℕ → Cube → Type 0
 Over n cube = (cube.free ≡ n) × IsWellNumbered cube
-
-pub distinct_more : {X : Type 0} (xs : List X) (x : X) → IsDistinct xs → ¬ Contains xs x → IsDistinct (xs ++ x ∷ [])
-distinct_more [] x distinct none = (λ i. omega (arith, i.1), tt)
-distinct_more (y ∷ xs) x distinct none = (
-  (λ i. elim (Contains-append_cases xs (x ∷ []) y i) [
-    | inl j ↦ distinct.0 j
-    | inr j ↦ elim (contains_cases x y [] j) [
-      | inl e ↦ none (subst (λ z. Contains (y ∷ xs) z) (sym e) (contains_first y xs))
-      | inr k ↦ omega (arith, k.1)
-    ]
-  ]),
-  distinct_more xs x distinct.1 (λ i. none (contains_later y x xs i)),
-)
 
 -- what is there stays
 pub stays : (done raws out : List Cube) → TakesSteps done raws out → (cube : Cube) → Contains done cube → Contains out cube
@@ -81,9 +69,6 @@ takes_distinct done raws out (TakesSteps.twice all raw it rest end outcome there
 takes_distinct done raws out (TakesSteps.new all raw it rest end outcome none more) distinct =
     takes_distinct (all ++ it ∷ []) rest end more (distinct_more all it distinct none)
 
-outcome_free : (raw cube : Cube) → Outcome raw (Some cube) → cube.free ≡ raw.free
-outcome_free raw cube (Outcome.cleared mid idle first it grouped settles some clears) = clears.free_is ∙ grouped.free_is
-
 module _ {σ : Signature} (e : Valuation σ) where
   -- a raw cube that holds leaves one that holds
   there : (done raws out : List Cube) → TakesSteps done raws out
@@ -129,7 +114,7 @@ module _ (σ : Signature) (n : ℕ) (raws out : List Cube) (are : AreRaw σ n ra
   pub steps_reduced : AreReduced σ n out
   steps_reduced = record {
     over = each_new (Over n) (λ raw cube free known fits outcome.
-        (outcome_free raw cube outcome ∙ free, (outcome_is_reduced σ raw cube known fits outcome).well_numbered));
+        let over = outcome_is_over raw cube known outcome in (over.0 ∙ free, over.1));
     fit = each_new (CubeFits σ) (λ raw cube free known fits outcome. outcome_fits σ raw cube fits outcome);
     reduced = each_new IsReduced (λ raw cube free known fits outcome. outcome_is_reduced σ raw cube known fits outcome);
     distinct = takes_distinct [] raws out takes tt;

@@ -59,17 +59,18 @@ finished m done parts out (Finishes.new all p it rest end numbers none more) new
   | inr found ↦ let (part, stands, is) = found in inr (part, contains_later p part rest stands, is)
 ]
 
-one_more : (xs : List Part) (x : Part) → IsDistinct xs → ¬ Contains xs x → IsDistinct (xs ++ x ∷ [])
-one_more [] x distinct out = ((λ i. omega (arith, i.1)), tt)
-one_more (y ∷ xs) x distinct out = (
+-- one item more, which is not there yet
+pub distinct_more : {X : Type 0} (xs : List X) (x : X) → IsDistinct xs → ¬ Contains xs x → IsDistinct (xs ++ x ∷ [])
+distinct_more [] x distinct out = ((λ i. omega (arith, i.1)), tt)
+distinct_more (y ∷ xs) x distinct out = (
   (λ i. elim (Contains-append_cases xs (x ∷ []) y i) [
     | inl j ↦ distinct.0 j
     | inr j ↦ elim (contains_cases x y [] j) [
-      | inl e ↦ out (subst (λ (z : Part). Contains (y ∷ xs) z) (sym e) (contains_first y xs))
+      | inl e ↦ out (subst (λ z. Contains (y ∷ xs) z) (sym e) (contains_first y xs))
       | inr k ↦ omega (arith, k.1)
     ]
   ]),
-  one_more xs x distinct.1 (λ i. out (contains_later y x xs i)),
+  distinct_more xs x distinct.1 (λ i. out (contains_later y x xs i)),
 )
 
 -- no part stands twice
@@ -77,7 +78,7 @@ pub finished_distinct : (m : ℕ) (done parts out : List Part) → Finishes m do
 finished_distinct m done parts out (Finishes.all_done all) distinct = distinct
 finished_distinct m done parts out (Finishes.twice all p it rest end numbers there more) distinct = finished_distinct m all rest end more distinct
 finished_distinct m done parts out (Finishes.new all p it rest end numbers none more) distinct =
-    finished_distinct m (all ++ it ∷ []) rest end more (one_more all it distinct none)
+    finished_distinct m (all ++ it ∷ []) rest end more (distinct_more all it distinct none)
 
 -- what is needed of a part, that something is left of it
 pub record IsSomePart (σ : Signature) (m : ℕ) (base : List Flat) (part : Part) : Type 0 where

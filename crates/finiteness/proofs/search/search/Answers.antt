@@ -63,7 +63,7 @@ returns-in-Open c = λ v s target here.
     let search : IsSearch basic s marks walk top = c.loop-next.invariant.search s here in
     let within : next.place < length marks = omega (arith, next_within basic marks walk top next s search onward, c.loop-next.invariant.size) in
     let open_there : HasMark marks next.place Open = mark_read marks next.place c.index.result.now Open within c.index.ensures c.in-Open.is in
-    let pushed : c.push.new.items.items ≡ walk ++ record { place = top.place; argument = next.argument } ∷ [] = c.in_ok-push-in-Some.ensures in
+    let pushed : c.push.new.self.items ≡ walk ++ record { place = top.place; argument = next.argument } ∷ [] = c.in_ok-push-in-Some.ensures.items in
     let same : c.in_ok-path-in-Some.field-0 ≡ arguments_of (walk ++ record { place = top.place; argument = next.argument } ∷ []) =
     c.in_ok-path-in-Some.ensures ∙ ap arguments_of (c.as_slice-in-Open.ensures.value ∙ pushed) in
     subst (λ (z : List ℕ). IsLeastRound basic v z) (sym same)
@@ -80,8 +80,8 @@ loop-next-smaller-in-Some c =
     let onward : IsOnward basic marks top next = onward_is _ _ _ _ _ c.as_slice.ensures.value c.in-Some.ensures in
     let within : next.place < length marks =
     omega (arith, next_within basic marks walk top next s (c.loop-next.invariant.search s t) onward, c.loop-next.invariant.size) in
-    less_on basic marks walk top next c.push.new.items.items (record { place = top.place; argument = next.argument })
-    (read_new marks next.place c.index.result.now within c.index.ensures c.in_default.not-Open onward.waits) c.in_ok-push-in-Some.ensures
+    less_on basic marks walk top next c.push.new.self.items (record { place = top.place; argument = next.argument })
+    (read_new marks next.place c.index.result.now within c.index.ensures c.in_default.not-Open onward.waits) c.in_ok-push-in-Some.ensures.items
 
 pub loop-next-preserved-in-Some : goal.loop-next-preserved-in-Some
 loop-next-preserved-in-Some c =
@@ -99,7 +99,7 @@ loop-next-preserved-in-Some c =
           let within : next.place < length marks = omega (arith, next_within basic marks walk top next s search onward, c.loop-next.invariant.size) in
           let new : HasMark marks next.place New = read_new marks next.place c.index.result.now within c.index.ensures c.in_default.not-Open onward.waits in
           subst (λ (z : List Turn). IsSearch basic s (slice_set marks next.place Open) z (record { place = next.place; argument = 0 }))
-          (sym c.in_ok-push-in-Some.ensures)
+          (sym c.in_ok-push-in-Some.ensures.items)
           (turns_on basic c.requires.solved.ascending marks c.loop-next.invariant.size s walk top search next onward new);
     }
 

@@ -1,5 +1,7 @@
+use Rattle.std.proofs.Common.{arith}
+use Rattle.lists.proofs.Items.{item_stands}
 use Rattle.flattening.proofs.EachCube.{map_more}
 use Rattle.flattening.proofs.cubes.place_basic.Goals as goal
 
-pub loop-i-preserved : goal.loop-i-preserved
-loop-i-preserved c = map_more _ c.args.basic.now c.loop-i.i c.get.result.now _ _ _ c.get.ensures c.loop-i.invariant c.in_ok-atom.ensures c.in_ok-push.ensures.ok
+pub loop-atom-preserved : goal.loop-atom-preserved
+loop-atom-preserved c = map_more _ c.args.basic.now c.loop-atom.atom-index c.atom-item.result _ _ _ (item_stands _ _ _ _ c.as_slice-atom-items.ensures (omega arith) c.atom-item.is) c.loop-atom.invariant c.in_ok-place_atom.ensures c.in_ok-push.ensures.ok

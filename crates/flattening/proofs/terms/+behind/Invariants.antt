@@ -4,5 +4,5 @@ use Rattle.flattening.specs.Plain.{terms_of}
 use Rattle.flattening.specs.Flattening.{wides}
 use Rattle.flattening.proofs.terms.+behind.Given as goal
 
-abbrev pub invariant-behind_terms-loop-i : goal.invariant-behind_terms-loop-i
-invariant-behind_terms-loop-i l = l.after + wides (terms_of (drop l.i (list_of l.terms))) ≡ l.next + wides (terms_of (list_of l.terms))
+abbrev pub invariant-behind_terms-loop-term : goal.invariant-behind_terms-loop-term
+invariant-behind_terms-loop-term l = l.after + wides (terms_of (drop l.term-index (list_of l.terms))) ≡ l.next + wides (terms_of (list_of l.terms))

@@ -5,9 +5,9 @@ use Rattle.flattening.specs.Numbers.{number_by}
 use Rattle.flattening.specs.Flattening.{deeper, applied, wides}
 use Rattle.flattening.proofs.terms.+equations.Given as goal
 
-abbrev pub invariant-add_deeper-loop-i : goal.invariant-add_deeper-loop-i
-invariant-add_deeper-loop-i l =
-    (l.basic ++ deeper (number_by l.given) l.left l.after (terms_of (drop l.i (list_of l.terms)))
+abbrev pub invariant-add_deeper-loop-term : goal.invariant-add_deeper-loop-term
+invariant-add_deeper-loop-term l =
+    (l.basic ++ deeper (number_by l.given) l.left l.after (terms_of (drop l.term-index (list_of l.terms)))
     ≡ l.initial.basic ++ deeper (number_by l.given) l.first l.next (terms_of (list_of l.terms)))
-    × (l.after + applied (terms_of (list_of l.terms)) + wides (terms_of (drop l.i (list_of l.terms)))
-    ≡ l.next + wides (terms_of (list_of l.terms)) + applied (terms_of (drop l.i (list_of l.terms))))
+    × (l.after + applied (terms_of (list_of l.terms)) + wides (terms_of (drop l.term-index (list_of l.terms)))
+    ≡ l.next + wides (terms_of (list_of l.terms)) + applied (terms_of (drop l.term-index (list_of l.terms))))

@@ -1,15 +1,15 @@
 use Rattle.std.proofs.Common.{◌≡◌, take, Some, arith, rules}
-use Rattle.std.proofs.lemmas.List.{take_all}
+use Rattle.lists.proofs.Items.{item_stands, all_items}
 use Rattle.formula_ast.specs.declared.token.TokenKind.TheVariants as k
 use Rattle.formula_ast.specs.Tokens.{kind_of}
 use Rattle.formula_printer.proofs.Checked.{one_more_item}
 use Rattle.formula_printer.proofs.checks.are_variables.Goals as goal
 
-pub loop-i-preserved : goal.loop-i-preserved
-loop-i-preserved c =
-    one_more_item (λ text. kind_of text ≡ Some k.Variable) c.args.names.now c.loop-i.i c.get.result.now c.get.ensures c.loop-i.invariant (search (rules, c.is_variable.ensures))
+pub loop-name-preserved : goal.loop-name-preserved
+loop-name-preserved c =
+    one_more_item (λ text. kind_of text ≡ Some k.Variable) c.args.names.now c.loop-name.name-index c.name-item.result (item_stands _ _ _ _ c.as_slice-name-items.ensures (omega arith) c.name-item.is) c.loop-name.invariant (rw c.as_str.ensures at (search (rules, c.is_variable.ensures)))
 
 pub returns : goal.returns
 returns c =
-    let all : take c.loop-i.i c.args.names.now ≡ c.args.names.now = take_all c.loop-i.i c.args.names.now (omega arith) in
-    rw all at c.loop-i.invariant
+    let all : take c.loop-name.name-index c.args.names.now ≡ c.args.names.now = all_items _ _ _ c.as_slice-name-items.ensures (omega arith) in
+    rw all at c.loop-name.invariant

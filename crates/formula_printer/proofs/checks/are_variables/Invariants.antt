@@ -4,5 +4,5 @@ use Rattle.formula_ast.specs.declared.token.TokenKind.TheVariants as k
 use Rattle.formula_ast.specs.Tokens.{kind_of}
 use Rattle.formula_printer.proofs.checks.are_variables.Given as goal
 
-abbrev pub invariant-loop-i : goal.invariant-loop-i
-invariant-loop-i l = All (λ text. kind_of text ≡ Some k.Variable) (take l.i l.names)
+abbrev pub invariant-loop-name : goal.invariant-loop-name
+invariant-loop-name l = All (λ text. kind_of text ≡ Some k.Variable) (take l.name-index l.names)

@@ -1,7 +1,7 @@
 use Rattle.std.proofs.Common.{◌≡◌, length, take, arith, subst, ◌∙◌, rules}
 use Rattle.formula_ast.specs.Terms.{list_of}
 use Rattle.formula_printer.specs.Printable.{TermFits}
-use Rattle.std.proofs.lemmas.List.{take_all}
+use Rattle.lists.proofs.Items.{item_stands, all_items}
 use Rattle.std.proofs.Common.{append_assoc}
 use Rattle.std.proofs.lemmas.Result.{IfOk-equal}
 use Rattle.formula_ast.specs.declared.term.Term.TheViews.{the_lemmas}
@@ -31,10 +31,10 @@ write_term-returns-in_ok-write_symbol-in-App t c =
 pub write_arguments-returns : goal.write_arguments-returns
 write_arguments-returns t c =
     let some : ¬ (length (list_of c.args.ts.now) ≡ 0) = λ none. c.if-len-eq0.false (c.len.ensures ∙ none) in
-    let all : take c.loop-i.i (list_of c.args.ts.now) ≡ list_of c.args.ts.now = take_all c.loop-i.i (list_of c.args.ts.now) (omega arith) in
+    let all : take c.loop-i.i (list_of c.args.ts.now) ≡ list_of c.args.ts.now = all_items _ _ _ c.as_slice-t-items.ensures (omega arith) in
     let so_far = rw all at c.loop-i.invariant in
     rw (closed c.args.sig.now c.args.names.now (list_of c.args.ts.now) some) (search (rules, IfOk-equal, append_assoc, so_far))
 
 pub write_arguments-loop-i-preserved : goal.write_arguments-loop-i-preserved
 write_arguments-loop-i-preserved t c =
-    rw (opened_more c.args.sig.now c.args.names.now (list_of c.args.ts.now) c.loop-i.i c.get.result.now c.get.ensures) (search (rules, append_assoc))
+    rw (opened_more c.args.sig.now c.args.names.now (list_of c.args.ts.now) c.loop-i.i c.t-item.result (item_stands _ _ _ _ c.as_slice-t-items.ensures (omega arith) c.t-item.is)) (search (rules, append_assoc))

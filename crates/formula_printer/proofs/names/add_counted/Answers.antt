@@ -22,6 +22,6 @@ returns c =
     let size : length c.args.found.now ≡ length (take c.args.n (fresh_names c.args.names.now c.args.k)) = ap (λ l. length l) c.requires in
     let room : length (take c.args.n (fresh_names c.args.names.now c.args.k)) < c.args.n = omega (arith, size) in
     on_ok_weaker c.push.result
-    (λ is. is ∙ ap (λ name. c.args.found.now ++ name ∷ []) c.in_ok-name.ensures ∙ ap (λ l. l ++ counted c.args.k ∷ []) c.requires
+    (λ is. is ∙ ap (λ name. c.args.found.now ++ name ∷ []) (c.new.ensures ∙ c.in_ok-name.ensures) ∙ ap (λ l. l ++ counted c.args.k ∷ []) c.requires
     ∙ taken_in c.args.names.now c.args.n c.args.k room new)
     c.push.ensures.ok

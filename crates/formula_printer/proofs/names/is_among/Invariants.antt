@@ -2,5 +2,5 @@ use Rattle.std.proofs.Common.{◌≡◌, false, take}
 use Rattle.formula_grammar.specs.Checks as checks
 use Rattle.formula_printer.proofs.names.is_among.Given as goal
 
-abbrev pub invariant-loop-i : goal.invariant-loop-i
-invariant-loop-i l = checks.is_among l.name (take l.i l.names) ≡ false
+abbrev pub invariant-loop-other : goal.invariant-loop-other
+invariant-loop-other l = checks.is_among l.name (take l.other-index l.names) ≡ false
