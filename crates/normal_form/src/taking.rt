@@ -3,7 +3,7 @@ ghost use Rattle.std.specs.Prelude.{◌≡◌, ◌∷◌, [], ◌++◌, ℕ, map
 ghost use Rattle.flat_form.specs.declared.cube.Cube.{Cube};
 ghost use Rattle.flat_form.specs.Numbering.{IsWellNumbered, CubesOver};
 ghost use Rattle.flat_form.specs.Raws.{joined};
-ghost use Rattle.normal_form.specs.Taking.{Continues};
+ghost use Rattle.normal_form.specs.Taking.{Continues, KeepsOne};
 ghost use Rattle.step_facts.specs.Lists.{TakesSteps};
 
 use crate::raws::join;
@@ -24,10 +24,9 @@ fn is_among(cubes: &[Cube], cube: &Cube) -> bool
     false
 }
 
-/// The cube stands last, unless it is one of those so far. Whether it was not.
+/// The cube stands last, unless it is one of those so far.
 pub(crate) fn push_new(cubes: &mut Cubes, cube: Cube) -> Result<(), NoMemory>
-    ensures known { OnOk result (Contains cubes.old cube → cubes.new ≡ cubes.old) }
-    ensures new { OnOk result ((¬ Contains cubes.old cube) → cubes.new ≡ cubes.old ++ cube ∷ []) }
+    ensures { OnOk result (KeepsOne cubes.old cube cubes.new) }
 {
     if is_among(cubes.as_slice(), &cube) {
         return Ok(());
