@@ -1,3 +1,4 @@
+pub mod Sameness
 pub mod Shapes
 pub mod Stable
 pub mod Symbols

@@ -1,0 +1,11 @@
+use Rattle.std.proofs.lemmas.Result.{on_ok_weaker}
+use Rattle.numbering.proofs.Finished.{joins_there, joins_last}
+use Rattle.numbering.proofs.finishing.push_new.Goals as goal
+
+pub returns-then-is_among : goal.returns-then-is_among
+returns-then-is_among c = joins_there c.args.part c.as_slice.result.now c.args.parts.now c.is_among.result c.as_slice.ensures c.if-is_among.true c.is_among.ensures
+
+pub returns : goal.returns
+returns c =
+    on_ok_weaker c.push.result
+    (λ e. joins_last c.args.part c.as_slice.result.now c.args.parts.now c.push.new.self c.is_among.result c.as_slice.ensures c.if-is_among.false c.is_among.ensures e) c.push.ensures.ok

@@ -1,0 +1,4 @@
+pub mod Finishing
+pub mod Inner
+pub mod Listing
+pub mod Meeting
