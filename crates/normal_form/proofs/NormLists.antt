@@ -1,6 +1,6 @@
 -- Negated conjunctions as plain data, by their items and fields, and how large they are.
 use Rattle.std.specs.Prelude.{slice_get, All, Some, None}
-use Rattle.std.proofs.Common.{ℕ, ◌≡◌, ◌+◌, ◌-◌, ◌<◌, ◌≤◌, zero, suc, List, [], ◌∷◌, length, refl, ap, ◌∙◌, sym, subst, arith, drop}
+use Rattle.std.proofs.Common.{ℕ, ◌≡◌, ◌+◌, ◌-◌, ◌<◌, ◌≤◌, zero, suc, List, [], ◌∷◌, ◌++◌, length, refl, ap, ◌∙◌, sym, subst, arith, drop}
 use Rattle.std.proofs.lemmas.List.{drop_more, drop_all}
 use Rattle.std.proofs.lemmas.Option.{slice_get_within, get_or_from_slice_get}
 use Rattle.flat_form.specs.declared.atom.Flat.{Flat}
@@ -130,3 +130,24 @@ plain_made n count x first all shut out same is_first (lists, are_plain, is_join
       is_joined,
       (shut, is_shut, is_not),
     )
+
+-- one more item
+
+list_over_push : (n : ℕ) (items : List Normal) (x : Normal) → NormsOver n (norms_list items) → NormOver n (norm_of x) → NormsOver n (norms_list (items ++ x ∷ []))
+list_over_push n [] x over here = (here, tt)
+list_over_push n (y ∷ ys) x over here = (over.0, list_over_push n ys x over.1 here)
+
+pub pushed_over : (n : ℕ) (parts new : Normals) (x : Normal) → list_of new ≡ list_of parts ++ x ∷ [] → NormsOver n (norms_of parts) → NormOver n (norm_of x) → NormsOver n (norms_of new)
+pushed_over n parts new x is over here =
+    subst (λ (z : Norms). NormsOver n z) (sym (norms_by_list new)) (subst (λ (z : List Normal). NormsOver n (norms_list z)) (sym is)
+    (list_over_push n (list_of parts) x (subst (λ (z : Norms). NormsOver n z) (norms_by_list parts) over) here))
+
+pub none_over : (n : ℕ) (parts : Normals) → list_of parts ≡ [] → NormsOver n (norms_of parts)
+none_over n parts is = subst (λ (z : Norms). NormsOver n z) (sym (norms_by_list parts)) (subst (λ (z : List Normal). NormsOver n (norms_list z)) (sym is) tt)
+
+-- of its fields
+pub made_over : (n m bound : ℕ) (basic : List Flat) (parts : Normals) → m ≡ n + bound → BasicOver m basic → NormsOver m (norms_of parts)
+    → NormOver n (norm_of (roll-Normal (record { bound = bound; basic = basic; parts = parts })))
+made_over n m bound basic parts same at_basic at_parts =
+    subst (λ (z : Norm). NormOver n z) (sym (norm_rolled bound basic parts))
+    (subst (λ (k : ℕ). BasicOver k basic) same at_basic, subst (λ (k : ℕ). NormsOver k (norms_of parts)) same at_parts)

@@ -9,3 +9,6 @@ mod taking;
 pub use cube_reduction::reduce;
 pub use engine::{Engine, PlainEngine};
 pub use operations::{and, exists, not, or};
+
+#[cfg(test)]
+mod tests;
