@@ -1,0 +1,13 @@
+pub mod Filtered
+pub mod FlagsOf
+pub mod GroupedCube
+pub mod IsCleared
+pub mod IsOrdered
+pub mod KeptAtoms
+pub mod NewNumbers
+pub mod Outcomes
+pub mod Regrouped
+pub mod RenumberedParts
+pub mod SettledParts
+pub mod Taken
+pub mod WithoutIdle

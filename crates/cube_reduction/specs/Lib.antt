@@ -1,0 +1,4 @@
+pub mod Grouping
+pub mod Keeping
+pub mod Numbers
+pub mod Ordering
