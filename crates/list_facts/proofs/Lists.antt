@@ -153,7 +153,7 @@ kept_from done cubes out (KeepsFirst.new all it rest end none more) cube i = eli
   ]
 ]
 
-kept_distinct : (done cubes out : List Cube) → KeepsFirst done cubes out → IsDistinct done → IsDistinct out
+pub kept_distinct : (done cubes out : List Cube) → KeepsFirst done cubes out → IsDistinct done → IsDistinct out
 kept_distinct done cubes out (KeepsFirst.all_done all) distinct = distinct
 kept_distinct done cubes out (KeepsFirst.twice all it rest end there more) distinct = kept_distinct all rest end more distinct
 kept_distinct done cubes out (KeepsFirst.new all it rest end none more) distinct = kept_distinct (all ++ it ∷ []) rest end more (distinct_more all it distinct none)
@@ -165,7 +165,7 @@ or_from left right out is cube i = elim (kept_from [] (left ++ right) out is cub
   | inr j ↦ Contains-append_cases left right cube j
 ]
 
-or_all : (P : Cube → Type 0) (left right out : List Cube) → KeepsFirst [] (left ++ right) out → All P left → All P right → All P out
+pub or_all : (P : Cube → Type 0) (left right out : List Cube) → KeepsFirst [] (left ++ right) out → All P left → All P right → All P out
 or_all P left right out is a b = each_of P out (λ cube i. elim (or_from left right out is cube i) [
   | inl j ↦ All-contains P left cube a j
   | inr j ↦ All-contains P right cube b j

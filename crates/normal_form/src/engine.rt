@@ -1,19 +1,21 @@
 // What solves negated conjunctions.
-ghost use Rattle.std.specs.Prelude.{ℕ, ◌↔◌, List, All, Contains, IfOk};
+ghost use Rattle.std.specs.Prelude.{ℕ, ◌↔◌, List, [], ◌∷◌, All, Contains, IfOk};
 ghost use Rattle.lists.specs.Distinct.{IsDistinct};
 ghost use Rattle.tree_model.specs.Signatures.{Signature};
 ghost use Rattle.tree_model.specs.Valuations.{Valuation};
 ghost use Rattle.flat_form.specs.declared.cube.Cube.{Cube};
 ghost use Rattle.flat_form.specs.Fitting.{NormFits};
 ghost use Rattle.flat_form.specs.Meanings.{SomeHolds, NormHolds};
-ghost use Rattle.flat_form.specs.Normals.{Norm, norm_of};
-ghost use Rattle.flat_form.specs.Numbering.{CubesOver, NormOver};
+ghost use Rattle.flat_form.specs.Normals.{Norm, norm_of, norms_of};
+ghost use Rattle.flat_form.specs.Numbering.{BasicOver, CubesOver, NormOver, NormsOver};
 ghost use Rattle.flat_form.specs.Reduced.{IsReduced};
 ghost use Rattle.flat_form.specs.Symbols.{norm_symbols, cubes_symbols};
-ghost use Rattle.step_facts.specs.Lists.{IsPlain};
+ghost use Rattle.step_facts.specs.Lists.{TakesSteps, IsJoined, IsPlain, PlainLists};
 
-use flat_form::{Cubes, Normal};
-use lists::NoMemory;
+use crate::operations::{and, exists, not};
+use crate::taking::take;
+use flat_form::{Basic, Cube, Cubes, Normal, Normals, Parts};
+use lists::{Copied, NoMemory};
 use std::alloc::Global;
 
 /// What solves negated conjunctions.
@@ -42,7 +44,56 @@ pub struct PlainEngine;
 impl Engine for PlainEngine {
     ghost gives = { IsPlain };
 
-    fn solve(&mut self, _alloc: Global, _free: usize, _n: &Normal) -> Result<Cubes, NoMemory> {
-        Err(NoMemory)
+    fn solve(&mut self, alloc: Global, free: usize, n: &Normal) -> Result<Cubes, NoMemory> {
+        plain(alloc, free, n)
     }
+}
+
+// The list of the atoms alone, over so many free variables.
+fn first(alloc: Global, free: usize, basic: &Basic) -> Result<Cubes, NoMemory>
+    requires { BasicOver free basic.now }
+    ensures over { IfOk result (CubesOver free) }
+    ensures takes { IfOk result (TakesSteps [] (record { free = free; outer = 0; basic = basic.now; parts = [] } ∷ [])) }
+{
+    let raw = Cube {
+        free,
+        outer: 0,
+        basic: basic.copy(alloc)?,
+        parts: Parts::new(alloc),
+    };
+    let mut out = Cubes::new(alloc);
+    take(alloc, &mut out, &raw)?;
+    Ok(out)
+}
+
+// The list, joined with that of each part.
+#[cycle(plain)]
+fn with_parts(alloc: Global, free: usize, first: Cubes, parts: &Normals) -> Result<Cubes, NoMemory>
+    requires first { CubesOver free first }
+    requires parts { NormsOver free (norms_of parts.now) }
+    ensures over { IfOk result (CubesOver free) }
+    ensures joined { IfOk result (λ all. (lists : List (List Cube)) × PlainLists free (norms_of parts.now) lists × IsJoined first lists all) }
+{
+    let mut all = first;
+    for i in 0..parts.len() {
+        let list = plain(alloc, free, parts.get(i))?;
+        all = and(alloc, &all, &list)?;
+    }
+    Ok(all)
+}
+
+// The list of the negated conjunction, from the inside out.
+#[cycle(plain)]
+fn plain(alloc: Global, free: usize, n: &Normal) -> Result<Cubes, NoMemory>
+    requires { NormOver free (norm_of n.now) }
+    ensures over { IfOk result (CubesOver free) }
+    ensures exactly { IfOk result (IsPlain free (norm_of n.now)) }
+{
+    let Some(count) = free.checked_add(n.bound) else {
+        return Err(NoMemory);
+    };
+    let first = first(alloc, count, &n.basic)?;
+    let all = with_parts(alloc, count, first, &n.parts)?;
+    let shut = exists(alloc, n.bound, &all)?;
+    not(alloc, free, &shut)
 }

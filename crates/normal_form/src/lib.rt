@@ -2,5 +2,10 @@
 #![tactic(auto)]
 
 mod engine;
+mod operations;
+mod raws;
+mod taking;
 
+pub use cube_reduction::reduce;
 pub use engine::{Engine, PlainEngine};
+pub use operations::{and, exists, not, or};

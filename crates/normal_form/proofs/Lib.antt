@@ -1,0 +1,4 @@
+pub mod Continuing
+pub mod NormLists
+pub mod Quantified
+pub mod Walking

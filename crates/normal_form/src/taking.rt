@@ -1,0 +1,79 @@
+//! The steps, taken on raw cubes one after the other.
+ghost use Rattle.std.specs.Prelude.{◌≡◌, ◌∷◌, [], ◌++◌, ℕ, map, All, Contains, IfOk, OnOk, IsTrue, ◌↔◌};
+ghost use Rattle.flat_form.specs.declared.cube.Cube.{Cube};
+ghost use Rattle.flat_form.specs.Numbering.{IsWellNumbered, CubesOver};
+ghost use Rattle.flat_form.specs.Raws.{joined};
+ghost use Rattle.normal_form.specs.Taking.{Continues, KeepsOne};
+ghost use Rattle.step_facts.specs.Lists.{TakesSteps};
+
+use crate::raws::join;
+use cube_reduction::{Same, reduce};
+use flat_form::{Cube, Cubes};
+use lists::NoMemory;
+use std::alloc::Global;
+
+// Whether the cube is one of these.
+fn is_among(cubes: &[Cube], cube: &Cube) -> bool
+    ensures { IsTrue result ↔ Contains cubes.now cube.now }
+{
+    for other in cubes {
+        if other.is_same(cube) {
+            return true;
+        }
+    }
+    false
+}
+
+/// The cube stands last, unless it is one of those so far.
+pub(crate) fn push_new(cubes: &mut Cubes, cube: Cube) -> Result<(), NoMemory>
+    ensures { OnOk result (KeepsOne cubes.old cube cubes.new) }
+{
+    if is_among(cubes.as_slice(), &cube) {
+        return Ok(());
+    }
+    cubes.push(cube)
+}
+
+/// Takes the steps on the raw cube. What they come to stands last, unless it is one of those so far.
+pub(crate) fn take(alloc: Global, out: &mut Cubes, raw: &Cube) -> Result<(), NoMemory>
+    requires over { IsWellNumbered raw.now }
+    ensures over { OnOk result (CubesOver raw.now.free out.old → CubesOver raw.now.free out.new) }
+    ensures takes { OnOk result (Continues out.old (raw.now ∷ []) out.new) }
+{
+    match reduce(alloc, raw)? {
+        Some(cube) => push_new(out, cube),
+        None => Ok(()),
+    }
+}
+
+/// Takes the steps on each of the raw cubes.
+pub(crate) fn take_all(alloc: Global, raws: &[Cube]) -> Result<Cubes, NoMemory>
+    requires over { All IsWellNumbered raws.now }
+    ensures over { IfOk result (λ out. (n : ℕ) → CubesOver n raws.now → CubesOver n out) }
+    ensures takes { IfOk result (TakesSteps [] raws.now) }
+{
+    let mut out = Cubes::new(alloc);
+    for raw in raws {
+        take(alloc, &mut out, raw)?;
+    }
+    Ok(out)
+}
+
+/// Takes the steps on the cube joined with each of the others.
+pub(crate) fn take_joined(
+    alloc: Global,
+    out: &mut Cubes,
+    one: &Cube,
+    others: &[Cube],
+) -> Result<(), NoMemory>
+    requires one { IsWellNumbered one.now }
+    requires others { CubesOver one.now.free others.now }
+    ensures over { OnOk result (CubesOver one.now.free out.old → CubesOver one.now.free out.new) }
+    ensures takes { OnOk result (Continues out.old (map (joined one.now) others.now) out.new) }
+{
+    for other in others {
+        let raw = join(alloc, one, other)?;
+        take(alloc, out, &raw)?;
+    }
+    Ok(())
+}
