@@ -4,8 +4,8 @@ ghost use Rattle.flat_form.specs.Solved.{variable_of, Ascends, IsSolved};
 
 use crate::{Args, Basic, Flat};
 
-// The variable that an atom stands for.
-fn variable(atom: &Flat) -> usize
+/// The variable that an atom stands for: its left side, or the one that is finite.
+pub fn variable(atom: &Flat) -> usize
     ensures { result ≡ variable_of atom.now }
 {
     match atom {

@@ -1,0 +1,4 @@
+pub mod Flags
+pub mod Mentioned
+pub mod Placing
+pub mod Sorting
