@@ -6,6 +6,7 @@ ghost use Rattle.basic_solver.specs.Stores.{atoms_of, with_atom, IsVerdict, Says
 use crate::Scope;
 use crate::listing::added;
 use flat_form::{Basic, Flat};
+use lists::Copied;
 use std::alloc::Global;
 use tree_model::NoMemory;
 

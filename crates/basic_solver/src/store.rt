@@ -6,6 +6,7 @@ ghost use Rattle.flat_form.specs.Solved.{IsSolved};
 use crate::solving::{appended, extra_of, gather, is_solvable, keep, says_more, solved};
 use crate::{Asserted, Scope};
 use flat_form::{Basic, Flat};
+use lists::Copied;
 use std::alloc::Global;
 use std::marker::Model;
 use tree_model::NoMemory;

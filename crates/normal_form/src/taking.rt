@@ -7,8 +7,8 @@ ghost use Rattle.normal_form.specs.Taking.{Continues, KeepsOne};
 ghost use Rattle.step_facts.specs.Lists.{TakesSteps};
 
 use crate::raws::join;
-use cube_reduction::{Same, reduce};
-use flat_form::{Cube, Cubes};
+use cube_reduction::reduce;
+use flat_form::{Cube, Cubes, is_same_cube};
 use lists::NoMemory;
 use std::alloc::Global;
 
@@ -17,7 +17,7 @@ fn is_among(cubes: &[Cube], cube: &Cube) -> bool
     ensures { IsTrue result ↔ Contains cubes.now cube.now }
 {
     for other in cubes {
-        if other.is_same(cube) {
+        if is_same_cube(other, cube) {
             return true;
         }
     }
