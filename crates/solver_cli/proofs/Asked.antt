@@ -1,11 +1,12 @@
 -- What is read as a question that is answered by now is closed and calls no predicate.
-use Rattle.std.proofs.Common.{◌≡◌, ◌≢◌, ◌⊎◌, ⊎_elim, ℕ, zero, suc, ◌-◌, ◌≤◌, List, [], ◌∷◌, ◌++◌, map, length, Bool, true, false, ◌&&◌, ◌||◌, Option, Some, None, All, inl, inr, refl, sym, ◌∙◌, ap, subst, arith}
+use Rattle.std.proofs.Common.{◌≡◌, ◌≢◌, ◌⊎◌, ⊎_elim, ℕ, zero, suc, ◌-◌, ◌≤◌, List, [], ◌∷◌, ◌++◌, map, length, Bool, true, false, ◌&&◌, ◌||◌, Option, Some, None, All, get_or, inl, inr, refl, sym, ◌∙◌, ap, subst, arith}
 use Rattle.std.specs.Prelude.{Contains, slice_get, option_and_then}
 use Rattle.std.specs.Str.{bytes_eq}
 use Rattle.std.proofs.lemmas.List.{map-append}
 use Rattle.std.proofs.lemmas.List.Elements.{All-head, All-tail, All-push, All-nil, All-append, All-map, Contains-append_cases}
 use Rattle.std.proofs.lemmas.Option.{get_or_from_slice_get}
 use Rattle.std.proofs.lemmas.Slice.Eq.{bytes_eq-Decides}
+use Rattle.tree_model.specs.declared.kind.Kind.{Kind}
 use Rattle.tree_model.specs.declared.kind.Kind.TheVariants as kind
 use Rattle.tree_model.specs.declared.tree.Symbol.{Symbol}
 use Rattle.tree_model.specs.declared.tree.Symbol.TheVariants.{Named, Further}
@@ -151,7 +152,7 @@ module _ (σ : Signature) (names : List Text) where
     | inr (path, got) ↦ occurs xs w u right (both_true (has_bound xs v) (has_bound xs w) b).1 path x got
   ]
   free_is_bound xs (written.call p ws) f (ts, e, are) b x free =
-      let (i, t, at, path, got) = subst (λ g. IsFreeIn x g) e free in
+      let (i, t, at, (path, got)) = subst (λ g. IsFreeIn x g) e free in
       occurs_in xs ws ts are b i path x (ap (λ o. option_and_then {T = Term} {U = Term} (λ r. subterm r path) o) at ∙ got)
   free_is_bound xs (written.no w) f (g, e, is) b x free = free_is_bound xs w g is b x (subst (λ h. IsFreeIn x h) e free)
   free_is_bound xs (written.group w) f is b x free = free_is_bound xs w f is b x free
@@ -212,10 +213,15 @@ all_answered file σ preds solves (written.solve w ∷ more) (s, is, makes) buil
       symbols = so_far.symbols;
     })
 
+abbrev kind_or_symbol : Option (Kind × ℕ) → Kind
+kind_or_symbol None = kind.Symbol
+kind_or_symbol (Some declared) = declared.0
+
 -- where no predicate is declared, none is called
 not_declared : (σ : Signature) → All IsSymbol σ → (p n : ℕ) → declared_at σ p ≡ Some (kind.Pred, n) → ⊥
 not_declared [] symbols p n e = cc
-not_declared (entry ∷ σ) symbols zero n e = let is = All-head IsSymbol entry σ symbols in cc
+not_declared (entry ∷ σ) symbols zero n e =
+    let is : kind.Symbol ≡ kind.Pred = sym (All-head IsSymbol entry σ symbols) ∙ ap kind_or_symbol e in cc
 not_declared (entry ∷ σ) symbols (suc p) n e = not_declared σ (All-tail IsSymbol entry σ symbols) p n e
 
 none_called : (σ : Signature) (n : ℕ) → All IsSymbol σ → (f : Form) → FormOver σ σ n f → FormOver σ [] n f
@@ -238,11 +244,12 @@ pub are_closed : (bytes : List ℕ) (file : File) → ReadsAs bytes file → IsW
 are_closed bytes file reads well_formed i d is =
     let answered = all_answered file [] [] [] reads.statements reads.makes reads.built (record { closed = All-nil HasNoFree; symbols = All-nil IsSymbol }) in
     let s = well_formed.solves i d is in
+    let statement : Statement = get_or file.solves i d in
     record {
       over = record {
         words = s.words;
         distinct = s.distinct;
-        formula = none_called file.signature _ answered.symbols _ s.formula;
+        formula = none_called file.signature (length statement.names) answered.symbols (form_of statement.body) s.formula;
       };
       closed = answered.closed i d is;
     }

@@ -175,8 +175,8 @@ module _ (file : File) (s : Statement) (closed : IsClosed file s) where
 
 -- what a deciding call says of its answer
 pub right_answer : (file : File) (s : Statement) (answer : Answer) → ((answer ≡ «True») ↔ IsValid file s) → ((answer ≡ «False») ↔ IsUnsatisfiable file s) → IsRight file s answer
-right_answer file s «True» always never = valid (always.0 refl)
-right_answer file s «False» always never = unsatisfiable (never.0 refl)
+right_answer file s «True» holds fails = valid (holds.0 refl)
+right_answer file s «False» holds fails = unsatisfiable (fails.0 refl)
 
 module _ (file : File) (s : Statement) (closed : IsClosed file s) where
   pub always_true : IsValid file s → (◌≡◌ {A = Answer} «True» «True») ↔ IsValid file s
