@@ -1,10 +1,10 @@
 -- Some of the atoms of a list that ascends, in their order.
-use Rattle.std.specs.Prelude.{Contains, ◌↔◌}
+use Rattle.std.specs.Prelude.{Contains}
 use Rattle.std.specs.List.{filter}
-use Rattle.std.proofs.Common.{◌≡◌, ◌<◌, refl, Bool, true, false, cond, List, [], ◌∷◌, sym, ap, ◌∙◌, subst, arith, inl, inr, ◌⊎◌}
+use Rattle.std.proofs.Common.{◌≡◌, refl, Bool, true, false, cond, List, [], ◌∷◌, sym, ap, ◌∙◌, subst, arith, inl, inr, ◌⊎◌}
 use Rattle.tree_facts.proofs.Members.{contains_first, contains_later, contains_cases}
 use Rattle.flat_form.specs.declared.atom.Flat.{Flat}
-use Rattle.flat_form.specs.Solved.{variable_of, Ascends}
+use Rattle.flat_form.specs.Solved.{Ascends}
 
 module _ (test : Flat → Bool) where
   module _ (y : Flat) (xs : List Flat) (x : Flat) where

@@ -1,7 +1,7 @@
 -- Flags for the numbers of a list, and the numbers in a range without a flag.
 use Rattle.std.specs.Prelude.{Contains, slice_set, ◌↔◌}
 use Rattle.std.specs.List.Sorted.{IsStrictlyIncreasing}
-use Rattle.std.proofs.Common.{ℕ, ◌≡◌, ◌+◌, ◌<◌, ◌≤◌, Bool, true, false, List, [], ◌∷◌, ◌++◌, length, get_or, take, sym, ap, ◌∙◌, subst, arith, inl, inr, ◌⊎◌, length-append}
+use Rattle.std.proofs.Common.{ℕ, ◌≡◌, ◌+◌, ◌<◌, ◌≤◌, Bool, true, List, [], ◌∷◌, ◌++◌, length, get_or, take, sym, ap, ◌∙◌, subst, arith, inl, inr, length-append}
 use Rattle.std.proofs.lemmas.List.{get_or_append_left, get_or_push, take_more, take_all}
 use Rattle.std.proofs.lemmas.List.Elements.{Contains-push, Contains-append_left, Contains-push_cases, Contains-get_or}
 use Rattle.cube_facts.proofs.Places.{side}

@@ -1,7 +1,7 @@
 -- The order in which a cube's variables are grouped, and that the cube is then grouped.
-use Rattle.std.specs.Prelude.{Contains, All, ◌↔◌, ◌⊎◌}
+use Rattle.std.specs.Prelude.{Contains, All, ◌↔◌}
 use Rattle.std.specs.List.Sorted.{IsStrictlyIncreasing}
-use Rattle.std.proofs.Common.{ℕ, ◌≡◌, ◌+◌, ◌<◌, ◌≤◌, List, [], ◌∷◌, ◌++◌, map, get_or, length, refl, sym, ap, ◌∙◌, subst, arith, inl, inr}
+use Rattle.std.proofs.Common.{ℕ, ◌≡◌, ◌+◌, ◌<◌, ◌≤◌, List, [], ◌++◌, map, get_or, length, sym, ap, ◌∙◌, subst, arith, inl, inr}
 use Rattle.std.proofs.lemmas.List.Elements.{Contains-append_left, Contains-append_right, Contains-append_cases, Contains-get_or}
 use Rattle.lists.specs.Distinct.{IsDistinct}
 use Rattle.flat_form.specs.declared.atom.Flat.{Flat}
@@ -9,11 +9,9 @@ use Rattle.flat_form.specs.declared.cube.Cube.{Cube}
 use Rattle.flat_form.specs.Added.{IsSolvedForm}
 use Rattle.flat_form.specs.Numbering.{BasicOver}
 use Rattle.flat_form.specs.Orders.{new_number, IsRenumbering}
-use Rattle.flat_form.specs.Parts.{AllBelow, renumbered}
 use Rattle.flat_form.specs.Solved.{variable_of}
 use Rattle.flat_form.specs.Steps.{IsOuter, IsSplit, IsGrouped}
 use Rattle.flat_facts.proofs.Follows.{over_below, added_over}
-use Rattle.cube_facts.proofs.Places.{side}
 use Rattle.cube_facts.proofs.Variables.{own_variable, stands_tells}
 use Rattle.step_facts.proofs.NewNumbers.{distinct_increasing, distinct_both, front_number, number_behind}
 use Rattle.cube_reduction.specs.Grouping.{number_by, IsRegrouped}

@@ -1,6 +1,6 @@
 -- The variables of a grouped cube in their last order: what the free ones reach, the new numbers, and parts under them.
 use Rattle.std.specs.Prelude.{Contains, slice_index, nat_eq, All, ◌↔◌}
-use Rattle.std.proofs.Common.{ℕ, suc, ◌≡◌, ◌+◌, ◌-◌, ◌<◌, ◌≤◌, true, false, List, [], ◌∷◌, ◌++◌, map, length, refl, sym, ap, ◌∙◌, subst, arith, inl, inr, ◌⊎◌}
+use Rattle.std.proofs.Common.{ℕ, ◌≡◌, ◌+◌, ◌-◌, ◌<◌, ◌≤◌, true, false, List, [], ◌∷◌, ◌++◌, map, length, refl, sym, ap, ◌∙◌, subst, arith, inl, inr, ◌⊎◌}
 use Rattle.std.proofs.lemmas.Bool.Decides.{nat_tests}
 use Rattle.std.proofs.lemmas.List.{length-map}
 use Rattle.std.proofs.lemmas.List.Elements.{All-contains, Contains-get_or, Contains-append_cases}
@@ -28,7 +28,7 @@ use Rattle.step_facts.proofs.Renumberings.{map_over}
 use Rattle.step_facts.proofs.Grouped.{number_back, number_fixed, grouped_is_right}
 use Rattle.step_facts.proofs.Cleared.{not_idle, end_over, end_solved, last_low, last_high}
 use Rattle.numbering.specs.Meeting.{IsMet}
-use Rattle.cube_reduction.specs.Ordering.{WasGrouped, IsOrdered}
+use Rattle.cube_reduction.specs.Ordering.{IsOrdered}
 
 -- what stands behind an order changes no place in it
 place_kept : (order more : List ℕ) (v : ℕ) → Contains order v → place_of (order ++ more) v ≡ place_of order v

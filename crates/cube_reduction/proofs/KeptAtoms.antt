@@ -1,7 +1,7 @@
 -- What stays of the atoms that a part adds, by the marks of the variables that the first ones reach.
-use Rattle.std.specs.Prelude.{Contains, ltb}
+use Rattle.std.specs.Prelude.{ltb}
 use Rattle.std.specs.List.{filter}
-use Rattle.std.proofs.Common.{ℕ, ◌≡◌, ◌<◌, Bool, true, List, sym, ap, ◌∙◌, subst, arith}
+use Rattle.std.proofs.Common.{ℕ, ◌≡◌, Bool, true, List, sym, ap, ◌∙◌, subst, arith}
 use Rattle.std.proofs.lemmas.Bool.Decides.{nat_tests}
 use Rattle.flat_form.specs.declared.atom.Flat.{Flat}
 use Rattle.flat_form.specs.declared.atom.Flat.TheVariants.{VarVar, VarTerm, Finite}

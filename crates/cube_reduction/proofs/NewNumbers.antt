@@ -1,6 +1,6 @@
 -- The table of new numbers, with those behind it, has the new number of each variable.
-use Rattle.std.proofs.Common.{ℕ, ◌≡◌, ◌+◌, ◌<◌, ◌≤◌, true, false, List, length, refl, sym, ◌∙◌, arith, inl, inr}
-use Rattle.std.specs.Prelude.{slice_index, ltb}
+use Rattle.std.proofs.Common.{ℕ, ◌≡◌, ◌+◌, ◌≤◌, true, false, List, length, arith, inl, inr}
+use Rattle.std.specs.Prelude.{ltb}
 use Rattle.std.proofs.lemmas.Bool.Decides.{nat_tests}
 use Rattle.flat_form.specs.Orders.{new_number}
 use Rattle.cube_facts.proofs.Places.{side, number_high}

@@ -1,6 +1,6 @@
 -- What the outcome of the steps is: well numbered, reduced, of the same meaning, and with no other symbols.
 use Rattle.std.specs.Prelude.{All, Contains, IfSome, ◌↔◌}
-use Rattle.std.proofs.Common.{◌≡◌, ◌+◌, Option, Some, None}
+use Rattle.std.proofs.Common.{◌≡◌, Option, Some, None}
 use Rattle.tree_model.specs.Signatures.{Signature}
 use Rattle.tree_model.specs.Valuations.{Valuation}
 use Rattle.flat_form.specs.declared.cube.Cube.{Cube}

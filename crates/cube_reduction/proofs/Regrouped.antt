@@ -1,24 +1,20 @@
 -- A cube whose determined variables move into its parts: its atoms in the new order, and the parts with those that move.
 use Rattle.std.specs.Prelude.{Contains, All, ltb, leb, ◌↔◌, ◌⊎◌}
 use Rattle.std.specs.List.{filter}
-use Rattle.std.specs.List.Sorted.{IsStrictlyIncreasing}
-use Rattle.std.proofs.Common.{ℕ, ◌≡◌, ◌+◌, ◌<◌, ◌≤◌, Bool, true, List, [], ◌∷◌, ◌++◌, map, get_or, length, refl, sym, ap, ◌∙◌, subst, arith, inl, inr}
+use Rattle.std.proofs.Common.{ℕ, ◌≡◌, ◌+◌, ◌<◌, ◌≤◌, Bool, true, List, map, get_or, refl, sym, ap, ◌∙◌, subst, arith, inl, inr}
 use Rattle.std.proofs.lemmas.Bool.Decides.{nat_tests}
-use Rattle.std.proofs.lemmas.List.Elements.{Contains-append_left, Contains-append_right, Contains-append_cases, All-contains, Contains-get_or}
-use Rattle.lists.specs.Distinct.{IsDistinct}
+use Rattle.std.proofs.lemmas.List.Elements.{Contains-get_or}
 use Rattle.flat_form.specs.declared.atom.Flat.{Flat}
 use Rattle.flat_form.specs.declared.cube.Part.{Part}
 use Rattle.flat_form.specs.declared.cube.Cube.{Cube}
-use Rattle.flat_form.specs.Added.{IsSolvedForm}
 use Rattle.flat_form.specs.Numbering.{BasicOver}
 use Rattle.flat_form.specs.Orders.{new_number, IsRenumbering}
-use Rattle.flat_form.specs.Parts.{AllBelow, renumbered}
-use Rattle.flat_form.specs.Solved.{variable_of, Ascends}
-use Rattle.flat_form.specs.Steps.{IsOuter, IsSplit, IsGrouped}
-use Rattle.flat_facts.proofs.Follows.{over_below, added_over}
+use Rattle.flat_form.specs.Parts.{renumbered}
+use Rattle.flat_form.specs.Solved.{variable_of}
+use Rattle.flat_form.specs.Steps.{IsOuter}
+use Rattle.flat_facts.proofs.Follows.{over_below}
 use Rattle.cube_facts.proofs.Places.{side}
-use Rattle.cube_facts.proofs.Variables.{own_variable, variable_renumbered, stands_tells}
-use Rattle.step_facts.proofs.NewNumbers.{distinct_increasing, distinct_both, front_number, number_behind}
+use Rattle.cube_facts.proofs.Variables.{own_variable, variable_renumbered}
 use Rattle.cube_reduction.specs.Grouping.{number_by, IsRegrouped}
 use Rattle.cube_reduction.specs.Numbers.{moved_into}
 use Rattle.cube_reduction.proofs.Filtered.{filtered_from, filtered_all, filtered_ascends}

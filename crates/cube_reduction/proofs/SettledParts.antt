@@ -1,14 +1,13 @@
 -- Parts over a base are settled one after the other.
-use Rattle.std.specs.Prelude.{Contains, All, Option, Some, None, MatchOption}
+use Rattle.std.specs.Prelude.{Contains, Option, Some, None, MatchOption}
 use Rattle.std.proofs.Common.{ℕ, ◌≡◌, ◌+◌, ◌<◌, ◌≤◌, List, [], ◌∷◌, ◌++◌, length, get_or, drop, sym, ap, ◌∙◌, subst, arith, append_assoc, append-nil, inl, inr}
 use Rattle.std.proofs.lemmas.List.{drop_more, drop_all}
-use Rattle.std.proofs.lemmas.List.Elements.{Contains-push_cases, All-append, All-contains}
+use Rattle.std.proofs.lemmas.List.Elements.{Contains-push_cases, All-append}
 use Rattle.flat_form.specs.declared.atom.Flat.{Flat}
 use Rattle.flat_form.specs.declared.cube.Part.{Part}
 use Rattle.flat_form.specs.Added.{IsAdded}
 use Rattle.flat_form.specs.Meanings.{HasNone}
-use Rattle.flat_form.specs.Numbering.{AtomOver, BasicOver, PartOver}
-use Rattle.flat_form.specs.Parts.{IsPruned}
+use Rattle.flat_form.specs.Numbering.{AtomOver, BasicOver}
 use Rattle.flat_form.specs.Steps.{SettlesTo, Settles, all_done, dropped, settled}
 use Rattle.flat_facts.proofs.Follows.{added_over}
 use Rattle.cube_facts.proofs.Raws.{basic_wider}

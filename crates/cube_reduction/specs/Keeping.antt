@@ -1,6 +1,5 @@
 -- Whether an atom stays in a part.
 use Rattle.std.specs.Prelude.{ℕ, Bool, false, ltb, List, slice_index_or}
-use Rattle.tree_model.specs.declared.tree.Symbol.{Symbol}
 use Rattle.flat_form.specs.declared.atom.Flat.{Flat}
 use Rattle.flat_form.specs.declared.atom.Flat.TheVariants.{VarVar, VarTerm, Finite}
 

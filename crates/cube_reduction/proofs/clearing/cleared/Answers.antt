@@ -2,7 +2,6 @@ use Rattle.std.proofs.Common.{ℕ, ◌≡◌, ◌+◌, ◌<◌, ◌≤◌, List,
 use Rattle.std.specs.Prelude.{All}
 use Rattle.lists.specs.Distinct.{IsDistinct}
 use Rattle.flat_form.specs.declared.cube.Part.{Part}
-use Rattle.flat_form.specs.declared.cube.Cube.{Cube}
 use Rattle.flat_form.specs.Numbering.{BasicOver, PartOver}
 use Rattle.flat_form.specs.Orders.{new_number, renumbered_part}
 use Rattle.flat_form.specs.Solved.{Ascends}

@@ -1,4 +1,4 @@
-use Rattle.std.proofs.Common.{ℕ, ◌≡◌, ◌+◌, ◌<◌, ◌≤◌, List, length, sym, subst, arith, ◌⊎◌}
+use Rattle.std.proofs.Common.{ℕ, ◌+◌, ◌<◌, ◌≤◌, List, sym, subst, ◌⊎◌}
 use Rattle.std.specs.Prelude.{Contains, All, ◌↔◌}
 use Rattle.flat_form.specs.declared.atom.Flat.{Flat}
 use Rattle.flat_form.specs.Numbering.{BasicOver}

@@ -1,5 +1,5 @@
 use Rattle.std.proofs.Common.{◌≡◌, take}
-use Rattle.std.specs.Prelude.{leb, ltb}
+use Rattle.std.specs.Prelude.{leb}
 use Rattle.std.specs.List.{filter}
 use Rattle.flat_form.specs.Solved.{variable_of}
 use Rattle.cube_reduction.proofs.grouping.atoms_from.Given as goal

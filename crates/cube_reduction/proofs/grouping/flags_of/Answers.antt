@@ -1,4 +1,4 @@
-use Rattle.std.proofs.Common.{ℕ, true, get_or, ◌∙◌, arith}
+use Rattle.std.proofs.Common.{true, get_or, ◌∙◌, arith}
 use Rattle.std.proofs.lemmas.List.{length-set, get_or_default}
 use Rattle.cube_reduction.proofs.FlagsOf.{flags_more, flags_all}
 use Rattle.cube_reduction.proofs.grouping.flags_of.Goals as goal

@@ -1,4 +1,4 @@
-use Rattle.std.proofs.Common.{ℕ, ◌≡◌, ◌+◌, ◌++◌, List, [], length, refl, arith}
+use Rattle.std.proofs.Common.{◌≡◌, ◌+◌, [], refl, arith}
 use Rattle.flat_facts.proofs.Follows.{added_over}
 use Rattle.flat_facts.proofs.Shapes.{solved_form_solved}
 use Rattle.cube_reduction.proofs.GroupedCube.{order_here, lent_low, lent_distinct, lent_order, lent_within, grouped_lent}

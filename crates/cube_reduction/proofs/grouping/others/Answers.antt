@@ -1,4 +1,4 @@
-use Rattle.std.proofs.Common.{ℕ, ◌≡◌, ◌<◌, ◌++◌, ◌∷◌, [], true, false, length, arith}
+use Rattle.std.proofs.Common.{◌<◌, true, false, length, arith}
 use Rattle.reachability.specs.Flags.{IsSet}
 use Rattle.reachability.proofs.Flags.{flag_read}
 use Rattle.reachability.proofs.Sorting.{not_set}

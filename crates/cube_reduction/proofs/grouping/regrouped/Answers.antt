@@ -1,6 +1,5 @@
 use Rattle.std.specs.Prelude.{◌⊎◌, Contains}
-use Rattle.std.proofs.Common.{ℕ, ◌≡◌, ◌+◌, ◌<◌, List, subst, arith}
-use Rattle.flat_form.specs.declared.atom.Flat.{Flat}
+use Rattle.std.proofs.Common.{ℕ, ◌≡◌, ◌+◌, ◌<◌, subst, arith}
 use Rattle.flat_form.specs.Orders.{new_number, IsRenumbering}
 use Rattle.flat_form.specs.Solved.{variable_of}
 use Rattle.cube_reduction.proofs.Regrouped.{order_within, regrouped_lent}

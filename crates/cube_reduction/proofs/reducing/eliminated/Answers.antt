@@ -1,8 +1,6 @@
-use Rattle.std.proofs.Common.{ℕ, ◌≡◌, ◌+◌, List, [], sym, subst, Option, Some, None}
+use Rattle.std.proofs.Common.{ℕ, ◌≡◌, ◌+◌, List, [], sym, subst, Option}
 use Rattle.std.specs.Prelude.{All, Contains, MatchOption}
-use Rattle.flat_form.specs.declared.atom.Flat.{Flat}
 use Rattle.flat_form.specs.declared.cube.Part.{Part}
-use Rattle.flat_form.specs.declared.cube.Cube.{Cube}
 use Rattle.flat_form.specs.Numbering.{BasicOver, PartOver}
 use Rattle.flat_form.specs.Steps.{IsImplied, Settles, IsCleared, Outcome}
 use Rattle.step_facts.proofs.Grouped.{grouped_is_right}
