@@ -178,17 +178,17 @@ fn is_left_so(alloc: Global, lower: &[u8], top: &[u8], form: &[u8]) -> Result<bo
 }
 
 // The four parts of a row.
-fn parts(row: &str) -> Option<[&str; 4]> {
+fn parts(row: &str) -> Option<(&str, &str, &str, &str)> {
     let (lower, rest) = row.split_once("/")?;
     let (top, rest) = rest.split_once("/")?;
     let (form, extra) = rest.split_once("/")?;
-    Some([lower, top, form, extra])
+    Some((lower, top, form, extra))
 }
 
 #[test]
 fn outcomes_are_those_of_a_slow_model(rt: HostRuntime) -> Result<(), Fail> {
     for row in CASES.lines() {
-        let [lower, top, form, extra] = parts(row).ok_or("a row has four parts")?;
+        let (lower, top, form, extra) = parts(row).ok_or("a row has four parts")?;
         let right = is_solved_so(
             rt.alloc(),
             lower.as_bytes(),
