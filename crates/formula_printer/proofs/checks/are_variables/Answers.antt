@@ -7,7 +7,8 @@ use Rattle.formula_printer.proofs.checks.are_variables.Goals as goal
 
 pub loop-name-preserved : goal.loop-name-preserved
 loop-name-preserved c =
-    one_more_item (λ text. kind_of text ≡ Some k.Variable) c.args.names.now c.loop-name.name-index c.name-item.result (item_stands _ _ _ _ c.as_slice-name-items.ensures (omega arith) c.name-item.is) c.loop-name.invariant (rw c.as_str.ensures at (search (rules, c.is_variable.ensures)))
+    let is : kind_of c.name-item.result ≡ Some k.Variable = rw (← c.as_str.ensures) (search (rules, c.is_variable.ensures)) in
+    one_more_item (λ text. kind_of text ≡ Some k.Variable) c.args.names.now c.loop-name.name-index c.name-item.result (item_stands _ _ _ _ c.as_slice-name-items.ensures (omega arith) c.name-item.is) c.loop-name.invariant is
 
 pub returns : goal.returns
 returns c =
