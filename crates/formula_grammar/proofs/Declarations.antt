@@ -12,10 +12,13 @@ use Rattle.formula_ast.specs.declared.pred.Pred.{Pred}
 use Rattle.formula_ast.specs.WellFormed.{AreDistinct, predicate_at, predicates_from}
 use Rattle.formula_grammar.specs.Written.{Text, Declaration}
 use Rattle.formula_grammar.specs.Checks.{declared, entry_of, value_of}
-use Rattle.formula_grammar.specs.Lawful.{symbol_entry, MayDeclareAll}
+use Rattle.formula_grammar.specs.Names.{symbol_entry, AreNew}
+use Rattle.formula_grammar.specs.Within.{AreSmallDeclarations}
+use Rattle.formula_grammar.specs.Limits.{most_arguments}
 use Rattle.formula_grammar.proofs.WrittenWords.{IsName, AreNames}
 use Rattle.formula_grammar.proofs.Occurrences.{push_cases, push_distinct}
-use Rattle.formula_grammar.proofs.FormedTerms.{StaysIn, HasFewArguments}
+use Rattle.formula_grammar.specs.WellFormedLaws.{HasFewArguments}
+use Rattle.formula_grammar.proofs.FormedTerms.{StaysIn}
 
 abbrev pub names_of : Signature → List Text
 names_of σ = map {A = Entry} {B = Text} (λ entry. entry.name) σ
@@ -60,10 +63,10 @@ each_more : (xs : List Text) (x : Text) → EachIsName xs → IsName x → EachI
 each_more [] x a h = (h, tt)
 each_more (y ∷ xs) x a h = (a.0, each_more xs x a.1 h)
 
-few_more : (σ : Signature) (entry : Entry) → HasFewArguments σ → (entry.kind ≡ kind.Symbol → entry.arity ≤ 8) → HasFewArguments (σ ++ entry ∷ [])
+few_more : (σ : Signature) (entry : Entry) → HasFewArguments σ → (entry.kind ≡ kind.Symbol → entry.arity ≤ most_arguments) → HasFewArguments (σ ++ entry ∷ [])
 few_more σ entry few small place n e = step (slice_get (σ ++ entry ∷ []) place) refl e
   where
-    last : (y : Entry) → entry ≡ y → ◌≡◌ {A = Option (Kind × ℕ)} (Some (y.kind, y.arity)) (Some (kind.Symbol, n)) → n ≤ 8
+    last : (y : Entry) → entry ≡ y → ◌≡◌ {A = Option (Kind × ℕ)} (Some (y.kind, y.arity)) (Some (kind.Symbol, n)) → n ≤ most_arguments
     last y same e =
         let parts = some_pair_parts y.kind kind.Symbol y.arity n e in
         let most = small (ap (λ (z : Entry). z.kind) same ∙ parts.0) in
@@ -71,12 +74,12 @@ few_more σ entry few small place n e = step (slice_get (σ ++ entry ∷ []) pla
         omega (arith, most, size)
 
     by_place : (y : Entry) → ◌≡◌ {A = Option (Kind × ℕ)} (Some (y.kind, y.arity)) (Some (kind.Symbol, n))
-        → (slice_get σ place ≡ Some y) ⊎ ((place ≡ length σ) × (entry ≡ y)) → n ≤ 8
+        → (slice_get σ place ≡ Some y) ⊎ ((place ≡ length σ) × (entry ≡ y)) → n ≤ most_arguments
     by_place y e (inl h) = few place n (ap (λ o. option_map {T = Entry} {U = Kind × ℕ} (λ z. (z.kind, z.arity)) o) h ∙ e)
     by_place y e (inr h) = last y h.1 e
 
     step : (o : Option Entry) → slice_get (σ ++ entry ∷ []) place ≡ o
-        → option_map {T = Entry} {U = Kind × ℕ} (λ z. (z.kind, z.arity)) o ≡ Some (kind.Symbol, n) → n ≤ 8
+        → option_map {T = Entry} {U = Kind × ℕ} (λ z. (z.kind, z.arity)) o ≡ Some (kind.Symbol, n) → n ≤ most_arguments
     step None got e = absurd (cc e)
     step (Some y) got e = by_place y e (push_cases σ entry place y got)
 
@@ -100,7 +103,7 @@ module _ (σ : Signature) (preds : List Pred) (kept : IsKept σ preds) where
       subst (λ l. AreDistinct l) (sym (map-append (λ (z : Entry). z.name) σ (entry ∷ [])))
       (push_distinct (names_of σ) entry.name kept.distinct (is_new σ entry.name kept.distinct new))
 
-  kept_symbol : (d : Declaration) → declared σ d.name ≡ None → value_of d.digits ≤ 8 → IsName d.name → IsKept (σ ++ symbol_entry d ∷ []) preds
+  kept_symbol : (d : Declaration) → declared σ d.name ≡ None → value_of d.digits ≤ most_arguments → IsName d.name → IsKept (σ ++ symbol_entry d ∷ []) preds
   kept_symbol d new small h = record {
     names = names_more (symbol_entry d) h;
     distinct = distinct_more (symbol_entry d) new;
@@ -126,12 +129,12 @@ module _ (σ : Signature) (preds : List Pred) (kept : IsKept σ preds) where
             ∙ ap (λ x. predicates_from 0 σ ++ x ∷ []) same ∙ sym (predicates_more 0 σ entry);
       }
 
-pub kept_symbols : (ds : List Declaration) (σ : Signature) (preds : List Pred) → IsKept σ preds → MayDeclareAll σ ds → AreNames ds
+pub kept_symbols : (ds : List Declaration) (σ : Signature) (preds : List Pred) → IsKept σ preds → AreNew σ ds → AreSmallDeclarations σ ds → AreNames ds
     → IsKept (σ ++ map symbol_entry ds) preds
-kept_symbols [] σ preds kept may h = subst (λ τ. IsKept τ preds) (sym (append-nil σ)) kept
-kept_symbols (d ∷ ds) σ preds kept may h =
+kept_symbols [] σ preds kept new small h = subst (λ τ. IsKept τ preds) (sym (append-nil σ)) kept
+kept_symbols (d ∷ ds) σ preds kept new small h =
     subst (λ τ. IsKept τ preds) (append_assoc σ (symbol_entry d ∷ []) (map symbol_entry ds))
-    (kept_symbols ds (σ ++ symbol_entry d ∷ []) preds (kept_symbol σ preds kept d may.0.new may.0.few_arguments h.0) may.1 h.1)
+    (kept_symbols ds (σ ++ symbol_entry d ∷ []) preds (kept_symbol σ preds kept d new.0 small.0.few_arguments h.0) new.1 small.1 h.1)
 
 -- what is declared stays declared behind more entries
 pub stays_in_more : (σ τ : Signature) → StaysIn σ (σ ++ τ)

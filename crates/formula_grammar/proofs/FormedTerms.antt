@@ -16,19 +16,18 @@ use Rattle.formula_ast.specs.declared.term.Term.TheVariants as term
 use Rattle.formula_ast.specs.declared.term.Terms.{Terms}
 use Rattle.formula_ast.specs.Terms.{list_of, argument, subterm}
 use Rattle.formula_ast.specs.WellFormed.{LayerOver, TermOver, OccursIn}
-use Rattle.formula_grammar.specs.Written.{Text, WrittenTerm, variable, named, further, WrittenTerms, no_terms, one_more}
+use Rattle.formula_grammar.specs.Written.{Text, Head, named, further, WrittenTerm, variable, headed, WrittenTerms, no_terms, one_more}
+use Rattle.formula_grammar.specs.Limits.{most_arguments}
 use Rattle.formula_grammar.specs.Checks.{declared, index_of, is_among}
-use Rattle.formula_grammar.specs.Lawful.{count, UsesSymbols, AllUseSymbols, IsSmallTerm, AreSmallTerms, has_bound, all_have_bound}
-use Rattle.formula_grammar.specs.Meaning.{variables_of, all_variables_of, number_in, place_in, IsTerm, AreTerms}
+use Rattle.formula_grammar.specs.Names.{count, TakesArguments, UsesSymbols, AllUseSymbols, has_bound, all_have_bound}
+use Rattle.formula_grammar.specs.Within.{IsSmallHead, IsSmallTerm, AreSmallTerms}
+use Rattle.formula_grammar.specs.Meaning.{variables_of, all_variables_of, number_in, place_in, head_symbol, IsTerm, AreTerms}
+use Rattle.formula_grammar.specs.WellFormedLaws.{HasFewArguments}
 use Rattle.formula_grammar.proofs.Occurrences.{AreAmong, among_left, among_right, number_within}
 
 -- what is declared in the one signature is declared in the other
 abbrev pub StaysIn : Signature → Signature → Type 0
 StaysIn σ τ = (place : ℕ) (d : Kind × ℕ) → declared_at σ place ≡ Some d → declared_at τ place ≡ Some d
-
--- each symbol has at most eight arguments
-abbrev pub HasFewArguments : Signature → Type 0
-HasFewArguments σ = (place n : ℕ) → declared_at σ place ≡ Some (kind.Symbol, n) → n ≤ 8
 
 -- x is the number of one of these variables
 abbrev pub IsNumberOf : List Text → List Text → ℕ → Type 0
@@ -102,9 +101,14 @@ module _ (σ : Signature) (names : List Text) where
         declared_there σ f (kind.Symbol, count ws) d ∙ ap (λ m. Some (kind.Symbol, m)) (sym n) in
         (stays (place_in σ f) (kind.Symbol, length (list_of ts)) at, few (place_in σ f) (length (list_of ts)) at)
 
-    further_over : (i : Text) (ws : WrittenTerms) (ts : Terms) → count ws ≤ 8 → AreTerms σ names ws (list_of ts)
+    further_over : (i : Text) (ws : WrittenTerms) (ts : Terms) → count ws ≤ most_arguments → AreTerms σ names ws (list_of ts)
         → LayerOver τ (length names) (layer.App (Further (index_of i)) ts)
     further_over i ws ts small are = let n = count_is ws (list_of ts) are in (tt, omega (arith, n, small))
+
+    head_over : (h : Head) (ws : WrittenTerms) (ts : Terms) → TakesArguments σ h (count ws) → IsSmallHead h (count ws) → AreTerms σ names ws (list_of ts)
+        → LayerOver τ (length names) (layer.App (head_symbol σ h) ts)
+    head_over (named f) ws ts d s are = root_over f ws ts d are
+    head_over (further i) ws ts d s are = further_over i ws ts s.1 are
 
     mutual
       subterm_over : (w : WrittenTerm) (t : Term) → IsTerm σ names w t → UsesSymbols σ w → IsSmallTerm w → AreAmong names (variables_of w)
@@ -113,16 +117,11 @@ module _ (σ : Signature) (names : List Text) where
           subst (λ l. LayerOver τ (length names) l) (sym (layer_of_variable t (number_in names x) e)) (number_within x names a.0)
       subterm_over (variable x) t e u s a (i ∷ path) =
           subst (λ l. ArgumentOver i path (argument l i)) (sym (layer_of_variable t (number_in names x) e)) tt
-      subterm_over (named f ws) t (ts, e, are) u s a [] =
-          subst (λ l. LayerOver τ (length names) l) (sym (layer_of_application t (Named (place_in σ f)) ts e)) (root_over f ws ts u.0 are)
-      subterm_over (named f ws) t (ts, e, are) u s a (i ∷ path) =
-          subst (λ l. ArgumentOver i path (argument l i)) (sym (layer_of_application t (Named (place_in σ f)) ts e))
+      subterm_over (headed h ws) t (ts, e, are) u s a [] =
+          subst (λ l. LayerOver τ (length names) l) (sym (layer_of_application t (head_symbol σ h) ts e)) (head_over h ws ts u.0 s.0 are)
+      subterm_over (headed h ws) t (ts, e, are) u s a (i ∷ path) =
+          subst (λ l. ArgumentOver i path (argument l i)) (sym (layer_of_application t (head_symbol σ h) ts e))
           (argument_over ws (list_of ts) are u.1 s.1 a i path)
-      subterm_over (further k ws) t (ts, e, are) u s a [] =
-          subst (λ l. LayerOver τ (length names) l) (sym (layer_of_application t (Further (index_of k)) ts e)) (further_over k ws ts s.1 are)
-      subterm_over (further k ws) t (ts, e, are) u s a (i ∷ path) =
-          subst (λ l. ArgumentOver i path (argument l i)) (sym (layer_of_application t (Further (index_of k)) ts e))
-          (argument_over ws (list_of ts) are u s.2 a i path)
 
       argument_over : (ws : WrittenTerms) (ts : List Term) → AreTerms σ names ws ts → AllUseSymbols σ ws → AreSmallTerms ws
           → AreAmong names (all_variables_of ws) → (i : ℕ) (path : List ℕ) → ArgumentOver i path (slice_get ts i)
@@ -159,14 +158,10 @@ module _ (σ : Signature) (names : List Text) where
       number_at (variable y) t e b (i ∷ path) got =
           let none : StandsBelow path None = subst (λ l. StandsBelow path (argument l i)) (layer_of_variable t (number_in names y) e) got in
           absurd (cc none)
-      number_at (named f ws) t (ts, e, are) b [] got = absurd (no_application x (Named (place_in σ f)) ts (sym e ∙ some_is t (term.Var x) got))
-      number_at (named f ws) t (ts, e, are) b (i ∷ path) got =
+      number_at (headed h ws) t (ts, e, are) b [] got = absurd (no_application x (head_symbol σ h) ts (sym e ∙ some_is t (term.Var x) got))
+      number_at (headed h ws) t (ts, e, are) b (i ∷ path) got =
           number_below ws (list_of ts) are b i path
-          (subst (λ l. StandsBelow path (argument l i)) (layer_of_application t (Named (place_in σ f)) ts e) got)
-      number_at (further k ws) t (ts, e, are) b [] got = absurd (no_application x (Further (index_of k)) ts (sym e ∙ some_is t (term.Var x) got))
-      number_at (further k ws) t (ts, e, are) b (i ∷ path) got =
-          number_below ws (list_of ts) are b i path
-          (subst (λ l. StandsBelow path (argument l i)) (layer_of_application t (Further (index_of k)) ts e) got)
+          (subst (λ l. StandsBelow path (argument l i)) (layer_of_application t (head_symbol σ h) ts e) got)
 
       number_below : (ws : WrittenTerms) (ts : List Term) → AreTerms σ names ws ts → all_have_bound zs ws ≡ true → (i : ℕ) (path : List ℕ)
           → StandsBelow path (slice_get ts i) → IsNumberOf names zs x

@@ -1,22 +1,80 @@
--- A text reads, or has one first fault.
-use Rattle.std.proofs.Common.{◌≡◌, ℕ, suc, List, [], ◌∷◌, ◌++◌, length, All, Option, Some, None, refl, sym, ◌∙◌, ap, subst, arith}
-use Rattle.std.proofs.lemmas.List.Elements.{All-head, All-tail}
+-- A text reads, or has a first fault; and it reads in one way.
+use Rattle.std.proofs.Common.{◌≡◌, ℕ, ◌≤◌, Bool, true, false, List, [], ◌∷◌, length, nat_lt, Option, Some, None, refl, sym, ◌∙◌, subst, if◌then◌else◌}
+use Rattle.std.proofs.lemmas.Bool.{ltb-false}
+use Rattle.tree_model.specs.Signatures.{Signature}
 use Rattle.formula_ast.specs.declared.token.Token.{Token}
 use Rattle.formula_ast.specs.declared.file.File.{File}
+use Rattle.formula_ast.specs.declared.statement.Statement.{Statement}
+use Rattle.formula_ast.specs.Forms.{form_of}
 use Rattle.formula_ast.specs.Tokens.{Stream, end, bad, token, tokens_at, Word}
 use Rattle.formula_grammar.specs.declared.fault.Fault.{Fault}
-use Rattle.formula_grammar.specs.declared.fault.FaultKind.TheVariants.{NotBuilt}
-use Rattle.formula_grammar.specs.Written.{WrittenStatement}
-use Rattle.formula_grammar.specs.Grammar as g
-use Rattle.formula_grammar.specs.Grammar.{IsFile}
+use Rattle.formula_grammar.specs.declared.fault.FaultKind.TheVariants.{Limit}
+use Rattle.formula_grammar.specs.Limits.{most_bytes}
+use Rattle.formula_grammar.specs.Words.{WrittenStatement}
+use Rattle.formula_grammar.specs.Grammar.{files, IsFileOf, IsFormula}
+use Rattle.formula_grammar.specs.Machine.{Stack, statements, operand, open_place}
 use Rattle.formula_grammar.specs.Begins.{BeginsWith}
-use Rattle.formula_grammar.specs.FirstFault.{file_fault}
-use Rattle.formula_grammar.specs.Reading.{IsWritten, IsBuilt, ReadsAs, StopsAt, found, not_built}
-use Rattle.formula_grammar.specs.ReadingLaws.{NeverBoth, OneFault, NeverBothOfFormula}
-use Rattle.formula_grammar.proofs.Unique.{one_file_reading}
+use Rattle.formula_grammar.specs.FirstFault.{fault_at, fault_from, fault_of_text, file_fault, formula_fault}
+use Rattle.formula_grammar.specs.Reading.{IsWritten, ReadsAsStatements, ReadsWithin, ReadsAs, ReadsAsNamed, ReadsAsFormula}
 use Rattle.formula_grammar.proofs.Faultless.{lawful_files, lawful_formulas}
-use Rattle.formula_grammar.proofs.Behind.{one_behind_another}
-use Rattle.formula_grammar.proofs.Lengths.{length_is, parts_length}
+use Rattle.formula_grammar.proofs.OneReading.{one_file_reading, one_formula_reading}
+use Rattle.formula_grammar.proofs.Meant.{one_file, one_statement, a_file, a_statement}
+use Rattle.formula_grammar.specs.Meaning.{Makes, IsStatement}
+use Rattle.formula_grammar.proofs.Standing.{faultless_files_read, faultless_formulas_read}
+
+none_some : {fault : Fault} {o : Option Fault} → o ≡ None → o ≡ Some fault → ⊥
+none_some a b = cc (a, b)
+
+pub reads_without_fault : (bytes : List ℕ) (ss : List WrittenStatement) → ReadsWithin bytes ss → file_fault bytes ≡ None
+reads_without_fault bytes ss r = (lawful_files bytes r.reads.words ss r.short r.reads.written r.reads.grammar).1 (r.reads.named, r.within)
+
+pub never_both : (bytes : List ℕ) (file : File) (fault : Fault) → ReadsAs bytes file → ¬ (file_fault bytes ≡ Some fault)
+never_both bytes file fault r = λ e. none_some (reads_without_fault bytes r.statements r.reads) e
+
+pub never_both_of_formula : (σ : Signature) (bytes : List ℕ) (s : Statement) (fault : Fault) → ReadsAsFormula σ bytes s
+    → ¬ (formula_fault σ bytes ≡ Some fault)
+never_both_of_formula σ bytes s fault r = λ e.
+    none_some ((lawful_formulas σ bytes r.reads.words r.reads.formula r.short r.reads.written r.reads.grammar).1 (r.reads.uses, r.sized)) e
+
+-- a text without a fault is within the limit of size
+pub text_short : (σ : Signature) (s : Stack) (bytes : List ℕ) → fault_of_text σ s bytes ≡ None → length bytes ≤ most_bytes
+text_short σ s bytes e = by_test (nat_lt most_bytes (length bytes)) refl e
+  where
+    by_test : (b : Bool) → nat_lt most_bytes (length bytes) ≡ b
+        → (if b then fault_at most_bytes Limit else fault_from bytes (tokens_at bytes 0) (record { signature = σ; joints = 0 }) s) ≡ None
+        → length bytes ≤ most_bytes
+    by_test true h e = absurd (cc e)
+    by_test false h e = ltb-false most_bytes (length bytes) h
+
+file_short : (bytes : List ℕ) → file_fault bytes ≡ None → length bytes ≤ most_bytes
+unfolding file_fault
+file_short bytes e = text_short [] (statements files ∷ []) bytes e
+
+formula_short : (σ : Signature) (bytes : List ℕ) → formula_fault σ bytes ≡ None → length bytes ≤ most_bytes
+unfolding formula_fault
+formula_short σ bytes e = text_short σ (operand 1 open_place ∷ []) bytes e
+
+pub files_or_fault : (bytes : List ℕ) → file_fault bytes ≡ None → (file : File) × ReadsAs bytes file
+files_or_fault bytes e =
+    let f = faultless_files_read bytes e in
+    let w : IsWritten bytes f.0 = record { stop = f.1; tokens = f.2 } in
+    let short : length bytes ≤ most_bytes = file_short bytes e in
+    let a = (lawful_files bytes f.0 f.3.0 short w f.3.1).0 e in
+    let r : ReadsWithin bytes f.3.0 =
+    record { reads = record { words = f.0; written = w; grammar = f.3.1; named = a.0 }; short = short; within = a.1 } in
+    let file = a_file f.3.0 [] [] [] in
+    (file.0, record { statements = f.3.0; reads = r; makes = file.1 })
+
+pub statements_or_fault : (σ : Signature) (bytes : List ℕ) → formula_fault σ bytes ≡ None → (s : Statement) × ReadsAsFormula σ bytes s
+statements_or_fault σ bytes e =
+    let f = faultless_formulas_read σ bytes e in
+    let w : IsWritten bytes f.0 = record { stop = f.1; tokens = f.2 } in
+    let short : length bytes ≤ most_bytes = formula_short σ bytes e in
+    let a = (lawful_formulas σ bytes f.0 f.3.0 short w f.3.1).0 e in
+    let s = a_statement σ f.3.0 in
+    let r : ReadsAsNamed σ bytes s.0.names (form_of s.0.body) =
+    record { words = f.0; written = w; formula = f.3.0; grammar = f.3.1; uses = a.0; names_are = s.1.names; stands = s.1.body } in
+    (s.0, record { reads = r; short = short; sized = a.1 })
 
 -- ---- the words of a text
 
@@ -24,7 +82,7 @@ no_token : {at : ℕ} {t : Token} {more : Stream} → token t more ≡ end at �
 no_token e = cc e
 
 -- a text is written in one way
-one_writing : (bytes : List ℕ) (tokens : Stream) (ws vs : List Word) (m n : ℕ) → BeginsWith bytes tokens ws (end m)
+pub one_writing : (bytes : List ℕ) (tokens : Stream) (ws vs : List Word) (m n : ℕ) → BeginsWith bytes tokens ws (end m)
     → BeginsWith bytes tokens vs (end n) → ws ≡ vs
 one_writing bytes tokens [] [] m n a b = refl
 one_writing bytes (token t more) [] (v ∷ vs) m n a b = absurd (no_token a)
@@ -36,88 +94,25 @@ one_writing bytes (end at) (w ∷ ws) vs m n a b = absurd a
 one_writing bytes (bad at) [] (v ∷ vs) m n a b = absurd b
 one_writing bytes (bad at) (w ∷ ws) vs m n a b = absurd a
 
--- behind equally many words of it there comes the same
-same_place : (bytes : List ℕ) (tokens : Stream) (ws vs : List Word) (rest other : Stream) → BeginsWith bytes tokens ws rest
-    → BeginsWith bytes tokens vs other → length ws ≡ length vs → rest ≡ other
-same_place bytes tokens [] [] rest other a b e = sym a ∙ b
-same_place bytes tokens [] (v ∷ vs) rest other a b e = let h : 0 ≡ suc (length vs) = e in absurd (omega arith)
-same_place bytes tokens (w ∷ ws) [] rest other a b e = let h : suc (length ws) ≡ 0 = e in absurd (omega arith)
-same_place bytes (token t more) (w ∷ ws) (v ∷ vs) rest other a b e =
-    let h : suc (length ws) ≡ suc (length vs) = e in same_place bytes more ws vs rest other a.1 b.1 (omega arith)
-same_place bytes (end at) (w ∷ ws) (v ∷ vs) rest other a b e = absurd a
-same_place bytes (bad at) (w ∷ ws) (v ∷ vs) rest other a b e = absurd a
+same_words : (bytes : List ℕ) (ws vs : List Word) → IsWritten bytes ws → IsWritten bytes vs → ws ≡ vs
+same_words bytes ws vs a b = one_writing bytes (tokens_at bytes 0) ws vs a.stop b.stop a.tokens b.tokens
 
--- ---- the first statement that is not answered yet
+pub same_statements : (bytes : List ℕ) (ss ts : List WrittenStatement) → ReadsAsStatements bytes ss → ReadsAsStatements bytes ts → ss ≡ ts
+same_statements bytes ss ts a b =
+    let same : b.words ≡ a.words = same_words bytes b.words a.words b.written a.written in
+    one_file_reading files a.words ss ts a.grammar (subst (λ ws. IsFileOf files ws ts) same b.grammar)
 
-built_within : (xs : List WrittenStatement) (x : WrittenStatement) (ys : List WrittenStatement) → All IsBuilt (xs ++ x ∷ ys) → IsBuilt x
-built_within [] x ys a = All-head IsBuilt x ys a
-built_within (z ∷ xs) x ys a = built_within xs x ys (All-tail IsBuilt z (xs ++ x ∷ ys) a)
+pub reads_as_one_file : (bytes : List ℕ) (first other : File) → ReadsAs bytes first → ReadsAs bytes other → first ≡ other
+reads_as_one_file bytes first other a b =
+    let same : b.statements ≡ a.statements = same_statements bytes b.statements a.statements b.reads.reads a.reads.reads in
+    one_file first other a.statements [] [] [] a.makes (subst (λ ss. Makes other [] [] [] ss) same b.makes)
 
-not_built_first : (x z : WrittenStatement) (zs : List WrittenStatement) → x ≡ z → All IsBuilt (z ∷ zs) → ¬ IsBuilt x → ⊥
-not_built_first x z zs e a n = n (subst (λ y. IsBuilt y) (sym e) (All-head IsBuilt z zs a))
-
-one_front : (xs ys : List WrittenStatement) (x y : WrittenStatement) (us vs : List WrittenStatement) → (xs ++ x ∷ us) ≡ (ys ++ y ∷ vs)
-    → All IsBuilt xs → All IsBuilt ys → ¬ IsBuilt x → ¬ IsBuilt y → xs ≡ ys
-one_front [] [] x y us vs e a b m n = refl
-one_front [] (z ∷ ys) x y us vs e a b m n = absurd (not_built_first x z ys (cc e) b m)
-one_front (z ∷ xs) [] x y us vs e a b m n = absurd (not_built_first y z xs (cc e) a n)
-one_front (z ∷ xs) (u ∷ ys) x y us vs e a b m n =
-    let first : z ≡ u = cc e in
-    let others : (xs ++ x ∷ us) ≡ (ys ++ y ∷ vs) = cc e in
-    let h : xs ≡ ys = one_front xs ys x y us vs others (All-tail IsBuilt z xs a) (All-tail IsBuilt u ys b) m n in cc
-
--- ---- texts that stop at a statement
-
-module _ (bytes : List ℕ) where
-  whole : {offset : ℕ} (s : StopsAt bytes offset) → IsFile (s.before ++ s.words) (s.first ++ s.statement ∷ s.others)
-  whole s = one_behind_another (s.statement ∷ s.others) s.first s.front s.rest
-
-  stop_is_faultless : {offset : ℕ} → StopsAt bytes offset → file_fault bytes ≡ None
-  stop_is_faultless s = (lawful_files bytes (s.before ++ s.words) (s.first ++ s.statement ∷ s.others) s.written (whole s)).1 s.lawful
-
-  read_is_faultless : (file : File) → ReadsAs bytes file → file_fault bytes ≡ None
-  read_is_faultless file r = (lawful_files bytes r.words r.statements r.written r.grammar).1 r.lawful
-
-  same_statements : (ws vs : List Word) (first other : List WrittenStatement) → IsWritten bytes ws → IsWritten bytes vs
-      → IsFile ws first → IsFile vs other → first ≡ other
-  same_statements ws vs first other a b d e =
-      let same : ws ≡ vs = one_writing bytes (tokens_at bytes 0) ws vs a.stop b.stop a.tokens b.tokens in
-      one_file_reading vs first other (subst (λ ws. IsFile ws first) same d) e
-
-  read_never_stops : {offset : ℕ} (file : File) → ReadsAs bytes file → StopsAt bytes offset → ⊥
-  read_never_stops file r s =
-      let same : r.statements ≡ (s.first ++ s.statement ∷ s.others) =
-      same_statements r.words (s.before ++ s.words) r.statements (s.first ++ s.statement ∷ s.others) r.written s.written r.grammar (whole s) in
-      s.not_built (built_within s.first s.statement s.others (subst (λ xs. All IsBuilt xs) same r.built))
-
-  one_stop : {offset other : ℕ} → StopsAt bytes offset → StopsAt bytes other → offset ≡ other
-  one_stop a b =
-      let same : (a.first ++ a.statement ∷ a.others) ≡ (b.first ++ b.statement ∷ b.others) =
-      same_statements (a.before ++ a.words) (b.before ++ b.words) (a.first ++ a.statement ∷ a.others) (b.first ++ b.statement ∷ b.others)
-      a.written b.written (whole a) (whole b) in
-      let front : a.first ≡ b.first = one_front a.first b.first a.statement b.statement a.others b.others same a.built b.built a.not_built b.not_built in
-      let long : length a.before ≡ length b.before =
-      length_is a.front ∙ ap (λ xs. parts_length (g.file xs ∷ [])) front ∙ sym (length_is b.front) in
-      let place : token a.t a.more ≡ token b.t b.more =
-      same_place bytes (tokens_at bytes 0) a.before b.before (token a.t a.more) (token b.t b.more) a.place b.place long in
-      let same_token : a.t ≡ b.t = cc place in
-      sym a.offset_is ∙ ap (λ (t : Token). t.from) same_token ∙ b.offset_is
-
-no_fault : {o : Option Fault} {fault : Fault} → o ≡ None → o ≡ Some fault → ⊥
-no_fault a b = cc (a, b)
-
-same_fault : {o : Option Fault} {first other : Fault} → o ≡ Some first → o ≡ Some other → first ≡ other
-same_fault a b = cc (a, b)
-
-pub never_both : NeverBoth
-never_both bytes file fault r (found e) = no_fault (read_is_faultless bytes file r) e
-never_both bytes file fault r (not_built s) = read_never_stops bytes file r s
-
-pub one_fault : OneFault
-one_fault bytes first other (found a) (found b) = same_fault a b
-one_fault bytes first other (found a) (not_built s) = absurd (no_fault (stop_is_faultless bytes s) a)
-one_fault bytes first other (not_built s) (found b) = absurd (no_fault (stop_is_faultless bytes s) b)
-one_fault bytes first other (not_built s) (not_built r) = ap (λ n. record { offset = n; kind = NotBuilt }) (one_stop bytes s r)
-
-pub never_both_of_formula : NeverBothOfFormula
-never_both_of_formula σ bytes s fault r e = no_fault ((lawful_formulas σ bytes r.words r.formula r.written r.grammar).1 r.lawful) e
+pub reads_as_one_statement : (σ : Signature) (bytes : List ℕ) (first other : Statement) → ReadsAsFormula σ bytes first → ReadsAsFormula σ bytes other
+    → first ≡ other
+reads_as_one_statement σ bytes first other a b =
+    let same : b.reads.words ≡ a.reads.words = same_words bytes b.reads.words a.reads.words b.reads.written a.reads.written in
+    let formula : b.reads.formula ≡ a.reads.formula =
+    one_formula_reading a.reads.words b.reads.formula a.reads.formula (subst (λ ws. IsFormula ws b.reads.formula) same b.reads.grammar) a.reads.grammar in
+    let is : IsStatement σ a.reads.formula first = record { names = a.reads.names_are; body = a.reads.stands } in
+    let are : IsStatement σ b.reads.formula other = record { names = b.reads.names_are; body = b.reads.stands } in
+    one_statement σ a.reads.formula first other is (subst (λ f. IsStatement σ f other) formula are)

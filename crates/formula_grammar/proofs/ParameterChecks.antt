@@ -1,5 +1,5 @@
 -- What is checked at the parameters of a predicate holds exactly where they are distinct, short and few.
-use Rattle.std.proofs.Common.{◌≡◌, ℕ, zero, suc, ◌+◌, ◌≤◌, ◌<◌, Bool, true, false, ◌||◌, List, [], ◌∷◌, ◌++◌, length, All, Some, slice_get, bytes_eq, length-append, refl, sym, ◌∙◌, ap, subst, arith, append_assoc, append-nil}
+use Rattle.std.proofs.Common.{◌≡◌, ℕ, zero, suc, ◌+◌, ◌≤◌, ◌<◌, Bool, true, false, ◌||◌, List, [], ◌∷◌, ◌++◌, length, All, Some, slice_get, bytes_eq, length-append, refl, sym, ◌∙◌, ap, subst, arith}
 use Rattle.std.proofs.lemmas.List.Elements.{All-nil, All-cons, All-head, All-tail}
 use Rattle.std.proofs.lemmas.List.Folds.{list_any-append}
 use Rattle.std.proofs.lemmas.Slice.Eq.{bytes_eq-Decides}
@@ -7,8 +7,10 @@ use Rattle.formula_grammar.specs.Written.{Text}
 use Rattle.formula_grammar.specs.Machine.{has_parameter}
 use Rattle.formula_grammar.specs.Checks.{Environment, is_among}
 use Rattle.formula_ast.specs.WellFormed.{AreDistinct}
-use Rattle.formula_grammar.specs.Lawful.{IsShort}
-use Rattle.formula_grammar.proofs.Checked.{Later, checks_parameters}
+use Rattle.formula_grammar.specs.Within.{IsShort}
+use Rattle.formula_grammar.specs.Limits.{most_parameters}
+use Rattle.formula_grammar.proofs.Run.{Course, passes}
+use Rattle.formula_grammar.proofs.WrittenRoles.{parameters_roles}
 use Rattle.formula_grammar.proofs.Roles.{allowed, granted}
 
 -- each of these is none of those before it
@@ -62,37 +64,29 @@ new_distinct before (x ∷ xs) d n =
           ∙ false_or_false (is_among t before) (is_among t (x ∷ [])) (n t (suc i) e) (false_or_false (bytes_eq x t) false (other t i e (bytes_eq x t) refl) refl)),
     )
 
-moved : (k : List Text → Later) (E : Environment) (xs ys : List Text) → xs ≡ ys → k xs E ≡ true → k ys E ≡ true
-moved k E xs ys e h = subst (λ xs. k xs E ≡ true) e h
-
-module _ (E : Environment) (k : List Text → Later) where
-  list_allowed : (before xs : List Text) → length before ≤ 16 → checks_parameters before xs k E ≡ true
-      → AreNew before xs × All IsShort xs × (length before + length xs ≤ 16) × (k (before ++ xs) E ≡ true)
-  list_allowed before [] n e = (tt, All-nil IsShort, omega arith, moved k E before (before ++ []) (sym (append-nil before)) e)
+module _ (E : Environment) (o : Course) where
+  list_allowed : (before xs : List Text) → length before ≤ most_parameters → passes E (parameters_roles before xs o) ≡ true
+      → AreNew before xs × All IsShort xs × (length before + length xs ≤ most_parameters) × (passes E o ≡ true)
+  list_allowed before [] n e = (tt, All-nil IsShort, omega arith, e)
   list_allowed before (x ∷ xs) n e =
-      let a = allowed (has_parameter x before) (checks_parameters (before ++ x ∷ []) xs k) E e in
+      let a = allowed (has_parameter x before) (parameters_roles (before ++ x ∷ []) xs o) E e in
       let longer : length (before ++ x ∷ []) ≡ suc (length before) = grind (arith, length-append) in
-      let b = list_allowed (before ++ x ∷ []) xs (omega (arith, longer, a.0.2)) a.1 in (
-        (a.0.0, b.0),
-        All-cons IsShort x xs a.0.1 b.1,
-        omega (arith, longer, b.2),
-        moved k E ((before ++ x ∷ []) ++ xs) (before ++ x ∷ xs) (append_assoc before (x ∷ []) xs) b.3,
-      )
+      let b = list_allowed (before ++ x ∷ []) xs (omega (arith, longer, a.0.2)) a.1 in
+      ((a.0.0, b.0), All-cons IsShort x xs a.0.1 b.1, omega (arith, longer, b.2), b.3)
 
-  list_granted : (before xs : List Text) → AreNew before xs → All IsShort xs → length before + length xs ≤ 16 → k (before ++ xs) E ≡ true
-      → checks_parameters before xs k E ≡ true
-  list_granted before [] a b n e = moved k E (before ++ []) before (append-nil before) e
+  list_granted : (before xs : List Text) → AreNew before xs → All IsShort xs → length before + length xs ≤ most_parameters → passes E o ≡ true
+      → passes E (parameters_roles before xs o) ≡ true
+  list_granted before [] a b n e = e
   list_granted before (x ∷ xs) a b n e =
       let longer : length (before ++ x ∷ []) ≡ suc (length before) = grind (arith, length-append) in
-      let fewer : length before < 16 = omega (arith, n) in
-      granted (has_parameter x before) (checks_parameters (before ++ x ∷ []) xs k) E (a.0, All-head IsShort x xs b, fewer)
-      (list_granted (before ++ x ∷ []) xs a.1 (All-tail IsShort x xs b) (omega (arith, longer, n))
-      (moved k E (before ++ x ∷ xs) ((before ++ x ∷ []) ++ xs) (sym (append_assoc before (x ∷ []) xs)) e))
+      let fewer : length before < most_parameters = omega (arith, n) in
+      granted (has_parameter x before) (parameters_roles (before ++ x ∷ []) xs o) E (a.0, All-head IsShort x xs b, fewer)
+      (list_granted (before ++ x ∷ []) xs a.1 (All-tail IsShort x xs b) (omega (arith, longer, n)) e)
 
-  pub parameters_allowed : (xs : List Text) → checks_parameters [] xs k E ≡ true
-      → AreDistinct xs × All IsShort xs × (length xs ≤ 16) × (k xs E ≡ true)
+  pub parameters_allowed : (xs : List Text) → passes E (parameters_roles [] xs o) ≡ true
+      → AreDistinct xs × All IsShort xs × (length xs ≤ most_parameters) × (passes E o ≡ true)
   parameters_allowed xs e = let a = list_allowed [] xs (omega arith) e in (distinct_new [] xs a.0, a.1, omega (arith, a.2), a.3)
 
-  pub parameters_granted : (xs : List Text) → AreDistinct xs → All IsShort xs → length xs ≤ 16 → k xs E ≡ true
-      → checks_parameters [] xs k E ≡ true
+  pub parameters_granted : (xs : List Text) → AreDistinct xs → All IsShort xs → length xs ≤ most_parameters → passes E o ≡ true
+      → passes E (parameters_roles [] xs o) ≡ true
   parameters_granted xs d a n e = list_granted [] xs (new_distinct [] xs d (λ t i e. refl)) a (omega (arith, n)) e

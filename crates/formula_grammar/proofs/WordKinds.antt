@@ -5,12 +5,18 @@ use Rattle.std.specs.Option.{option_or}
 use Rattle.std.proofs.lemmas.List.{drop-drop}
 use Rattle.formula_ast.specs.declared.token.TokenKind.{TokenKind}
 use Rattle.formula_ast.specs.Tokens.{Stream, Word, kind_of, longest, front, tokens_of, tokens_at, begun, comment_len, is_blank}
+use Rattle.formula_grammar.specs.Words.{has_text, word}
 use Rattle.formula_grammar.specs.Begins.{BeginsWith}
 
--- each word is, as a whole, a token of its kind
+-- the text of each word that has one is, as a whole, a token of its kind
 abbrev pub AreOfKinds : List Word → Type 0
 AreOfKinds [] = Unit {0}
-AreOfKinds (w ∷ ws) = (kind_of w.text ≡ Some w.kind) × AreOfKinds ws
+AreOfKinds (w ∷ ws) = (has_text w.kind ≡ true → kind_of w.text ≡ Some w.kind) × AreOfKinds ws
+
+word_text : (kind : TokenKind) (text : List ℕ) (w : Word) → word kind text ≡ w → has_text w.kind ≡ true → w.text ≡ text
+word_text kind text w e h =
+    let has : has_text kind ≡ true = ap (λ (v : Word). has_text v.kind) e ∙ h in
+    sym (ap (λ (v : Word). v.text) e) ∙ ap (λ b. if b then text else []) has
 
 longest_is : (bs : List ℕ) (j : ℕ) (kind : TokenKind) (n : ℕ) → longest j bs ≡ Some (kind, n) → kind_of (take n bs) ≡ Some kind
 longest_is bs zero kind n e = absurd (cc)
@@ -46,9 +52,11 @@ module _ (bytes : List ℕ) (rest : Stream) where
       → (found : Option (TokenKind × ℕ)) → front bs ≡ found → BeginsWith bytes (begun found at more) (w ∷ ws) rest → AreOfKinds (w ∷ ws)
   first_word bs at more w ws d next None f h = absurd h
   first_word bs at more w ws d next (Some (kind, len)) f h =
-      let text : w.text ≡ take len bs = ap (λ (v : Word). v.text) (sym h.0) ∙ text_is bytes bs at len d in
-      let same : kind ≡ w.kind = ap (λ (v : Word). v.kind) h.0 in
-      (ap kind_of text ∙ front_is bs kind len f ∙ ap (λ x. Some x) same, next (len - 1) h.1)
+      let same : kind ≡ w.kind = ap (λ (v : Word). v.kind) h.0 in (
+        (λ has. ap kind_of (word_text kind (slice_range bytes at (at + len)) w h.0 has ∙ text_is bytes bs at len d)
+            ∙ front_is bs kind len f ∙ ap (λ x. Some x) same),
+        next (len - 1) h.1,
+      )
 
   of_kinds : (text : List ℕ) (passed at : ℕ) → drop at bytes ≡ text → (ws : List Word)
       → BeginsWith bytes (tokens_of passed at text) ws rest → AreOfKinds ws

@@ -1,12 +1,9 @@
--- The words in what a text is written as are of their kinds: names are names, and variables are variables.
-use Rattle.std.proofs.Common.{◌≡◌, List, [], ◌∷◌, ◌++◌, Option, Some, None, sym, ◌∙◌, ap, subst}
+-- The words in what is written are of their kinds: names are names, and variables are variables.
+use Rattle.std.proofs.Common.{◌≡◌, List, [], ◌∷◌, ◌++◌, Some, refl}
 use Rattle.formula_ast.specs.declared.token.TokenKind.TheVariants as k
 use Rattle.formula_ast.specs.Tokens.{Word, kind_of}
-use Rattle.formula_grammar.specs.Written.{Text, WrittenTerm, variable, named, further, WrittenTerms, WrittenFormula, Declaration, WrittenStatement, symbols, predicate, solve, Comparison, equals, differs, compared, all_of, some_of, implied, equated, named_atom}
-use Rattle.formula_grammar.specs.Written as written
-use Rattle.formula_grammar.specs.Grammar.{IsFile}
-use Rattle.formula_grammar.specs.Grammar.{Part, Derives, mark, word, file, declarations, parameters, more_parameters, formula, iff_tail, implication, imp_tail, disjunction, or_tail, conjunction, and_tail, unary, variables, name_tail, comparison, term, arguments, more_arguments}
-use Rattle.formula_grammar.specs.Grammar.{nothing_left, is_mark, is_word, file_end, file_symbols, file_predicate, file_solve, no_declarations, next_declaration, no_parameters, some_parameters, last_parameter, next_parameter, is_formula, no_iff, some_iff, is_implication, no_imp, some_imp, is_disjunction, no_or, next_or, is_conjunction, no_and, next_and, is_not, is_exists, is_forall, no_variables, next_variable, is_group, is_true, is_false, is_finite, is_win, is_named_atom, is_variable_atom, is_further_atom, no_tail, some_tail, is_equal, is_differ, is_variable, is_named, is_further, no_arguments, some_arguments, last_argument, next_argument}
+use Rattle.formula_grammar.specs.Written.{Text, WrittenTerm, variable, headed, WrittenTerms, no_terms, one_more, WrittenFormula, truth, finite, win, compared, call, no, group, joined, quantified, Declaration, Said, symbols, predicate, question}
+use Rattle.formula_grammar.specs.Words.{mark, sign, comparer_kind, term_words, arguments_words, more_words, variables_words, formula_words, declarations_words, more_parameters_words, parameters_words, said_words, statements_words, WrittenStatement}
 use Rattle.formula_grammar.specs.Meaning.{variables_of, all_variables_of, variables_in}
 use Rattle.formula_grammar.proofs.WordKinds.{AreOfKinds}
 
@@ -28,141 +25,85 @@ abbrev pub AreNames : List Declaration → Type 0
 AreNames [] = Unit {0}
 AreNames (d ∷ ds) = IsName d.name × AreNames ds
 
--- the names and the variables of statements are as they are written
+-- the names and the variables of a statement are as they are written
+abbrev pub IsWorded : Said → Type 0
+IsWorded (symbols d ds) = AreNames (d ∷ ds)
+IsWorded (predicate p xs f) = IsName p × AreVariables xs × AreVariables (variables_in f)
+IsWorded (question f) = AreVariables (variables_in f)
+
 abbrev pub AreWorded : List WrittenStatement → Type 0
 AreWorded [] = Unit {0}
-AreWorded (symbols ds ∷ more) = AreNames ds × AreWorded more
-AreWorded (predicate p xs f ∷ more) = IsName p × AreVariables xs × AreVariables (variables_in f) × AreWorded more
-AreWorded (solve f ∷ more) = AreVariables (variables_in f) × AreWorded more
+AreWorded (s ∷ ss) = IsWorded s.said × AreWorded ss
 
-abbrev InOption : Option WrittenFormula → Type 0
-InOption None = Unit {0}
-InOption (Some f) = AreVariables (variables_in f)
+mutual
+  term_worded : (t : WrittenTerm) (ws : List Word) → AreOfKinds (term_words t ws) → AreVariables (variables_of t) × AreOfKinds ws
+  term_worded (variable x) ws a = ((a.0 refl, tt), a.1)
+  term_worded (headed h ts) ws a = arguments_worded ts ws a.1
 
-abbrev InList : List WrittenFormula → Type 0
-InList [] = Unit {0}
-InList (f ∷ fs) = AreVariables (variables_in f) × InList fs
+  arguments_worded : (ts : WrittenTerms) (ws : List Word) → AreOfKinds (arguments_words ts ws) → AreVariables (all_variables_of ts) × AreOfKinds ws
+  arguments_worded no_terms ws a = (tt, a)
+  arguments_worded (one_more t ts) ws a =
+      let b = term_worded t (more_words ts (mark k.RightParen ∷ ws)) a.1 in
+      let c = more_worded ts (mark k.RightParen ∷ ws) b.1 in
+      (join (variables_of t) (all_variables_of ts) b.0 c.0, c.1.1)
 
-abbrev InComparison : Comparison → Type 0
-InComparison (equals t) = AreVariables (variables_of t)
-InComparison (differs t) = AreVariables (variables_of t)
+  more_worded : (ts : WrittenTerms) (ws : List Word) → AreOfKinds (more_words ts ws) → AreVariables (all_variables_of ts) × AreOfKinds ws
+  more_worded no_terms ws a = (tt, a)
+  more_worded (one_more t ts) ws a =
+      let b = term_worded t (more_words ts ws) a.1 in
+      let c = more_worded ts ws b.1 in
+      (join (variables_of t) (all_variables_of ts) b.0 c.0, c.1)
 
-abbrev InTail : Option Comparison → Type 0
-InTail None = Unit {0}
-InTail (Some c) = InComparison c
+variables_worded : (xs : List Text) (ws : List Word) → AreOfKinds (variables_words xs ws) → AreVariables xs × AreOfKinds ws
+variables_worded [] ws a = (tt, a)
+variables_worded (x ∷ xs) ws a = let b = variables_worded xs ws a.1 in ((a.0 refl, b.0), b.1)
 
--- the words in a part are as they are written
-abbrev IsWorded : Part → Type 0
-IsWorded (mark kind) = Unit {0}
-IsWorded (word kind text) = kind_of text ≡ Some kind
-IsWorded (file statements) = AreWorded statements
-IsWorded (declarations ds) = AreNames ds
-IsWorded (parameters xs) = AreVariables xs
-IsWorded (more_parameters xs) = AreVariables xs
-IsWorded (formula f) = AreVariables (variables_in f)
-IsWorded (iff_tail f) = InOption f
-IsWorded (implication f) = AreVariables (variables_in f)
-IsWorded (imp_tail f) = InOption f
-IsWorded (disjunction f) = AreVariables (variables_in f)
-IsWorded (or_tail fs) = InList fs
-IsWorded (conjunction f) = AreVariables (variables_in f)
-IsWorded (and_tail fs) = InList fs
-IsWorded (unary f) = AreVariables (variables_in f)
-IsWorded (variables xs) = AreVariables xs
-IsWorded (name_tail c) = InTail c
-IsWorded (comparison c) = InComparison c
-IsWorded (term t) = AreVariables (variables_of t)
-IsWorded (arguments ts) = AreVariables (all_variables_of ts)
-IsWorded (more_arguments ts) = AreVariables (all_variables_of ts)
+pub formula_worded : (f : WrittenFormula) (ws : List Word) → AreOfKinds (formula_words f ws) → AreVariables (variables_in f) × AreOfKinds ws
+formula_worded (truth b) ws a = (tt, a.1)
+formula_worded (finite t) ws a = let b = term_worded t (mark k.RightParen ∷ ws) a.1.1 in (b.0, b.1.1)
+formula_worded (win p n t) ws a = let b = term_worded t (mark k.RightParen ∷ ws) a.1.1.1.1.1.1 in (b.0, b.1.1)
+formula_worded (compared r t u) ws a =
+    let b = term_worded t (mark (comparer_kind r) ∷ term_words u ws) a in
+    let c = term_worded u ws b.1.1 in
+    (join (variables_of t) (variables_of u) b.0 c.0, c.1)
+formula_worded (call p ts) ws a = arguments_worded ts ws a.1
+formula_worded (no f) ws a = formula_worded f ws a.1
+formula_worded (group f) ws a = let b = formula_worded f (mark k.RightParen ∷ ws) a.1 in (b.0, b.1.1)
+formula_worded (joined j f g) ws a =
+    let b = formula_worded f (mark (sign j) ∷ formula_words g ws) a in
+    let c = formula_worded g ws b.1.1 in
+    (join (variables_in f) (variables_in g) b.0 c.0, c.1)
+formula_worded (quantified q x xs f) ws a =
+    let b = variables_worded (x ∷ xs) (mark k.Colon ∷ formula_words f ws) a.1 in
+    let c = formula_worded f ws b.1.1 in
+    (join (x ∷ xs) (variables_in f) b.0 c.0, c.1)
 
-abbrev AllWorded : List Part → Type 0
-AllWorded [] = Unit {0}
-AllWorded (p ∷ s) = IsWorded p × AllWorded s
+-- ---- statements
 
-abbrev InFormula : WrittenFormula → Type 0
-InFormula f = AreVariables (variables_in f)
+declarations_worded : (ds : List Declaration) (ws : List Word) → AreOfKinds (declarations_words ds ws) → AreNames ds × AreOfKinds ws
+declarations_worded [] ws a = (tt, a)
+declarations_worded (d ∷ ds) ws a = let b = declarations_worded ds ws a.1.1.1.1 in ((a.1.0 refl, b.0), b.1)
 
-in_equated : (f : WrittenFormula) (g : Option WrittenFormula) → InFormula f → InOption g → InFormula (equated f g)
-in_equated f None a b = a
-in_equated f (Some g) a b = join (variables_in f) (variables_in g) a b
+more_parameters_worded : (xs : List Text) (ws : List Word) → AreOfKinds (more_parameters_words xs ws) → AreVariables xs × AreOfKinds ws
+more_parameters_worded [] ws a = (tt, a)
+more_parameters_worded (x ∷ xs) ws a = let b = more_parameters_worded xs ws a.1.1 in ((a.1.0 refl, b.0), b.1)
 
-in_implied : (f : WrittenFormula) (g : Option WrittenFormula) → InFormula f → InOption g → InFormula (implied f g)
-in_implied f None a b = a
-in_implied f (Some g) a b = join (variables_in f) (variables_in g) a b
+parameters_worded : (xs : List Text) (ws : List Word) → AreOfKinds (parameters_words xs ws) → AreVariables xs × AreOfKinds ws
+parameters_worded [] ws a = (tt, a)
+parameters_worded (x ∷ xs) ws a =
+    let b = more_parameters_worded xs (mark k.RightParen ∷ ws) a.1.1 in ((a.1.0 refl, b.0), b.1.1)
 
-in_some : (f : WrittenFormula) (gs : List WrittenFormula) → InFormula f → InList gs → InFormula (some_of f gs)
-in_some f [] a b = a
-in_some f (g ∷ gs) a b = in_some (written.or f g) gs (join (variables_in f) (variables_in g) a b.0) b.1
-
-in_all : (f : WrittenFormula) (gs : List WrittenFormula) → InFormula f → InList gs → InFormula (all_of f gs)
-in_all f [] a b = a
-in_all f (g ∷ gs) a b = in_all (written.and f g) gs (join (variables_in f) (variables_in g) a b.0) b.1
-
-in_compared : (t : WrittenTerm) (c : Comparison) → AreVariables (variables_of t) → InComparison c → InFormula (compared t c)
-in_compared t (equals u) a b = join (variables_of t) (variables_of u) a b
-in_compared t (differs u) a b = join (variables_of t) (variables_of u) a b
-
-in_atom : (p : Text) (ts : WrittenTerms) (c : Option Comparison) → AreVariables (all_variables_of ts) → InTail c → InFormula (named_atom p ts c)
-in_atom p ts None a b = a
-in_atom p ts (Some c) a b = in_compared (named p ts) c a b
-
--- a formula that is made so has the same variables
-made_so : (f h : WrittenFormula) → h ≡ f → InFormula f → InFormula h
-made_so f h e a = subst (λ g. InFormula g) (sym e) a
-
-worded : {p : List Part} {ws : List Word} → Derives p ws → AreOfKinds ws → AllWorded p
-worded nothing_left a = tt
-worded (is_mark e d) a = (tt, worded d a.1)
-worded (is_word {w = w} e same d) a = (ap kind_of (sym same) ∙ a.0 ∙ ap (λ x. Some x) e, worded d a.1)
-worded (file_end d) a = (tt, worded d a)
-worded (file_symbols d) a = let b = worded d a in (((b.1.0, b.1.1.1.1.0), b.1.1.1.1.1.1.0), b.1.1.1.1.1.1.1)
-worded (file_predicate d) a = let b = worded d a in ((b.1.0, b.1.1.0, b.1.1.1.1.0, b.1.1.1.1.1.1.0), b.1.1.1.1.1.1.1)
-worded (file_solve d) a = let b = worded d a in ((b.1.0, b.1.1.1.0), b.1.1.1.1)
-worded (no_declarations d) a = (tt, worded d a)
-worded (next_declaration d) a = let b = worded d a in ((b.1.0, b.1.1.1.1.0), b.1.1.1.1.1)
-worded (no_parameters d) a = (tt, worded d a)
-worded (some_parameters d) a = let b = worded d a in ((b.1.0, b.1.1.0), b.1.1.1.1)
-worded (last_parameter d) a = (tt, worded d a)
-worded (next_parameter d) a = let b = worded d a in ((b.1.0, b.1.1.0), b.1.1.1)
-worded (is_formula {f = f} {h = h} {g = g} e d) a = let b = worded d a in (made_so (equated f g) h e (in_equated f g b.0 b.1.0), b.1.1)
-worded (no_iff d) a = (tt, worded d a)
-worded (some_iff d) a = (worded d a).1
-worded (is_implication {f = f} {h = h} {g = g} e d) a = let b = worded d a in (made_so (implied f g) h e (in_implied f g b.0 b.1.0), b.1.1)
-worded (no_imp d) a = (tt, worded d a)
-worded (some_imp d) a = (worded d a).1
-worded (is_disjunction {f = f} {h = h} {gs = gs} e d) a = let b = worded d a in (made_so (some_of f gs) h e (in_some f gs b.0 b.1.0), b.1.1)
-worded (no_or d) a = (tt, worded d a)
-worded (next_or d) a = let b = worded d a in ((b.1.0, b.1.1.0), b.1.1.1)
-worded (is_conjunction {f = f} {h = h} {gs = gs} e d) a = let b = worded d a in (made_so (all_of f gs) h e (in_all f gs b.0 b.1.0), b.1.1)
-worded (no_and d) a = (tt, worded d a)
-worded (next_and d) a = let b = worded d a in ((b.1.0, b.1.1.0), b.1.1.1)
-worded (is_not d) a = (worded d a).1
-worded (is_exists {x = x} {xs = xs} {f = f} d) a = let b = worded d a in (join (x ∷ xs) (variables_in f) (b.1.0, b.1.1.0) b.1.1.1.1.0, b.1.1.1.1.1)
-worded (is_forall {x = x} {xs = xs} {f = f} d) a = let b = worded d a in (join (x ∷ xs) (variables_in f) (b.1.0, b.1.1.0) b.1.1.1.1.0, b.1.1.1.1.1)
-worded (no_variables d) a = (tt, worded d a)
-worded (next_variable d) a = let b = worded d a in ((b.0, b.1.0), b.1.1)
-worded (is_group d) a = let b = worded d a in (b.1.0, b.1.1.1)
-worded (is_true d) a = worded d a
-worded (is_false d) a = worded d a
-worded (is_finite d) a = let b = worded d a in (b.1.1.0, b.1.1.1.1)
-worded (is_win d) a = let b = worded d a in (b.1.1.1.1.1.1.0, b.1.1.1.1.1.1.1.1)
-worded (is_named_atom {p = p} {ts = ts} {c = c} {h = h} e d) a = let b = worded d a in (made_so (named_atom p ts c) h e (in_atom p ts c b.1.0 b.1.1.0), b.1.1.1)
-worded (is_variable_atom {x = x} {c = c} {h = h} e d) a =
-    let b = worded d a in (made_so (compared (variable x) c) h e (in_compared (variable x) c (b.0, tt) b.1.0), b.1.1)
-worded (is_further_atom {i = i} {ts = ts} {c = c} {h = h} e d) a =
-    let b = worded d a in (made_so (compared (further i ts) c) h e (in_compared (further i ts) c b.1.0 b.1.1.0), b.1.1.1)
-worded (no_tail d) a = (tt, worded d a)
-worded (some_tail d) a = worded d a
-worded (is_equal d) a = (worded d a).1
-worded (is_differ d) a = (worded d a).1
-worded (is_variable d) a = let b = worded d a in ((b.0, tt), b.1)
-worded (is_named d) a = (worded d a).1
-worded (is_further d) a = (worded d a).1
-worded (no_arguments d) a = (tt, worded d a)
-worded (some_arguments {t = t} {ts = ts} d) a = let b = worded d a in (join (variables_of t) (all_variables_of ts) b.1.0 b.1.1.0, b.1.1.1.1)
-worded (last_argument d) a = (tt, worded d a)
-worded (next_argument {t = t} {ts = ts} d) a = let b = worded d a in (join (variables_of t) (all_variables_of ts) b.1.0 b.1.1.0, b.1.1.1)
+said_worded : (said : Said) (ws : List Word) → AreOfKinds (said_words said ws) → IsWorded said × AreOfKinds ws
+said_worded (symbols d ds) ws a =
+    let b = declarations_worded ds (mark k.Stop ∷ ws) a.1.1.1 in ((a.0 refl, b.0), b.1.1)
+said_worded (predicate p xs f) ws a =
+    let b = parameters_worded xs (mark k.Define ∷ formula_words f (mark k.Stop ∷ ws)) a.1 in
+    let c = formula_worded f (mark k.Stop ∷ ws) b.1.1 in
+    ((a.0 refl, b.0, c.0), c.1.1)
+said_worded (question f) ws a = let b = formula_worded f (mark k.Stop ∷ ws) a in (b.0, b.1.1)
 
 -- the words of a file that is written are as they are written
-pub file_worded : {ws : List Word} {statements : List WrittenStatement} → IsFile ws statements → AreOfKinds ws → AreWorded statements
-file_worded d a = (worded d a).0
+pub statements_worded : (ss : List WrittenStatement) → AreOfKinds (statements_words ss []) → AreWorded ss
+statements_worded [] a = tt
+statements_worded (s ∷ ss) a =
+    let b = said_worded s.said (statements_words ss []) a.1 in (b.0, statements_worded ss b.1)

@@ -1,11 +1,12 @@
 -- What the grammar alone says of where a text stops being a front of a file or of a formula.
 use Rattle.std.specs.Prelude.{◌≡◌, ℕ, List, [], ◌∷◌, ◌++◌}
 use Rattle.formula_ast.specs.declared.token.Token.{Token}
-use Rattle.formula_ast.specs.Tokens.{Stream, end, bad, token, Word, word_of}
+use Rattle.formula_ast.specs.Tokens.{Stream, end, bad, token, Word}
 use Rattle.formula_grammar.specs.declared.fault.Fault.{Fault}
 use Rattle.formula_grammar.specs.declared.fault.FaultKind.{FaultKind}
 use Rattle.formula_grammar.specs.declared.fault.FaultKind.TheVariants.{Byte, Ended, Syntax}
-use Rattle.formula_grammar.specs.Written.{WrittenStatement, WrittenFormula}
+use Rattle.formula_grammar.specs.Written.{WrittenFormula}
+use Rattle.formula_grammar.specs.Words.{word_of, WrittenStatement}
 use Rattle.formula_grammar.specs.Grammar.{IsFile, IsFormula}
 
 -- the tokens of a text begin with these words, and then come the others

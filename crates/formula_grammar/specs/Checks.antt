@@ -8,13 +8,18 @@ use Rattle.tree_model.specs.Signatures.{Signature, Entry, declared_at}
 use Rattle.signature.specs.Names.{place_of}
 use Rattle.formula_grammar.specs.declared.fault.FaultKind.{FaultKind}
 use Rattle.formula_grammar.specs.declared.fault.FaultKind.TheVariants.{Byte, Ended, Syntax, Unknown, Twice, Loose, Arity, Sort, Limit, NotBuilt}
-use Rattle.formula_grammar.specs.Written.{Text}
-use Rattle.formula_grammar.specs.Machine.{of_name, of_further, Role, begins, opens, declares, has_arity, declares_predicate, has_parameter, ends_predicate, joins, binds, stands, heads_term, begins_atom, is_further, opens_arguments, no_arguments, separates, closes, compares, stands_alone, plays, counts}
+use Rattle.formula_grammar.specs.Limits.{longest_name, most_arguments, most_parameters, most_symbols, most_predicates, greatest_index, most_moves, deepest_nesting, most_joints}
+use Rattle.formula_grammar.specs.Written.{Text, named, further}
+use Rattle.formula_grammar.specs.Machine.{Role, begins, opens, declares, has_arity, declares_predicate, has_parameter, ends_predicate, joins, binds, stands, heads, begins_atom, opens_arguments, no_arguments, separates, closes, compares, stands_alone, plays, counts}
 
 -- what the words so far have declared, and how many `&`, `|` and variables in quantifiers' lists the statement has so far
 pub record Environment : Type 0 where
   pub signature : Signature
   pub joints : ℕ
+
+-- what is declared before the first word, where these names are
+abbrev pub start : Signature → Environment
+start σ = record { signature = σ; joints = 0 }
 
 -- the value of digits that stand behind others with the value n
 abbrev pub value_from : ℕ → List ℕ → ℕ
@@ -60,7 +65,7 @@ count_of kind [] = 0
 count_of kind (entry ∷ σ) = if is_kind kind entry.kind then suc (count_of kind σ) else count_of kind σ
 
 abbrev pub is_long : Text → Bool
-is_long text = nat_lt 64 (length text)
+is_long text = nat_lt longest_name (length text)
 
 abbrev pub is_among : Text → List Text → Bool
 is_among x xs = list_any (λ y. bytes_eq y x) xs
@@ -70,42 +75,46 @@ abbrev pub first_of : List (Bool × FaultKind) → Option FaultKind
 first_of [] = None
 first_of ((holds, kind) ∷ more) = if holds then Some kind else first_of more
 
--- what is wrong with a word in this role
-abbrev pub check : Environment → Role → Option FaultKind
-check E begins = None
-check E (opens n) = first_of ((nat_lt 200 n, Limit) ∷ [])
-check E (declares f) =
-    first_of ((is_declared (declared E.signature f), Twice) ∷ (is_long f, Limit)
-    ∷ (nat_le 4096 (count_of kind.Symbol E.signature), Limit) ∷ [])
-check E (has_arity f digits) = first_of ((nat_lt 8 (value_of digits), Limit) ∷ [])
-check E (declares_predicate p) =
-    first_of ((is_declared (declared E.signature p), Twice) ∷ (is_long p, Limit)
-    ∷ (nat_le 1024 (count_of kind.Pred E.signature), Limit) ∷ [])
-check E (has_parameter x xs) = first_of ((is_among x xs, Twice) ∷ (is_long x, Limit) ∷ (nat_le 16 (length xs), Limit) ∷ [])
-check E (ends_predicate p n) = None
-check E joins = first_of ((nat_le 1000 E.joints, Limit) ∷ [])
-check E (binds x) = first_of ((is_long x, Limit) ∷ (nat_le 1000 E.joints, Limit) ∷ [])
-check E (stands x c) = first_of ((c.closed && not (is_among x c.bound), Loose) ∷ (is_long x, Limit) ∷ [])
-check E (heads_term f) =
-    first_of ((not (is_declared (declared E.signature f)), Unknown) ∷ (is_declared_as kind.Pred (declared E.signature f), Sort)
-    ∷ (is_long f, Limit) ∷ [])
-check E (begins_atom f) = first_of ((not (is_declared (declared E.signature f)), Unknown) ∷ (is_long f, Limit) ∷ [])
-check E (is_further text) = first_of ((nat_lt 18446744073709551615 (index_of text), Limit) ∷ [])
-check E (opens_arguments (of_name f)) = first_of ((nat_eq (arity_in (declared E.signature f)) 0, Arity) ∷ [])
-check E (opens_arguments of_further) = None
-check E (no_arguments (of_name f)) = first_of ((nat_lt 0 (arity_in (declared E.signature f)), Arity) ∷ [])
-check E (no_arguments of_further) = None
-check E (separates (of_name f) n) = first_of ((nat_le (arity_in (declared E.signature f)) n, Arity) ∷ [])
-check E (separates of_further n) = first_of ((nat_le 8 n, Limit) ∷ [])
-check E (closes (of_name f) n) = first_of ((nat_lt n (arity_in (declared E.signature f)), Arity) ∷ [])
-check E (closes of_further n) = None
-check E (compares f) = first_of ((is_declared_as kind.Pred (declared E.signature f), Sort) ∷ [])
-check E (stands_alone f) = first_of ((is_declared_as kind.Symbol (declared E.signature f), Sort) ∷ [])
-check E (plays p) =
-    first_of ((not (is_declared (declared E.signature p)), Unknown)
+-- what may be wrong with a word in this role: each test with the kind of fault that it finds
+abbrev pub tests : Environment → Role → List (Bool × FaultKind)
+tests E begins = []
+tests E (opens n) = (nat_lt deepest_nesting n, Limit) ∷ []
+tests E (declares f) =
+    (is_declared (declared E.signature f), Twice) ∷ (is_long f, Limit)
+    ∷ (nat_le most_symbols (count_of kind.Symbol E.signature), Limit) ∷ []
+tests E (has_arity f digits) = (nat_lt most_arguments (value_of digits), Limit) ∷ []
+tests E (declares_predicate p) =
+    (is_declared (declared E.signature p), Twice) ∷ (is_long p, Limit)
+    ∷ (nat_le most_predicates (count_of kind.Pred E.signature), Limit) ∷ []
+tests E (has_parameter x xs) = (is_among x xs, Twice) ∷ (is_long x, Limit) ∷ (nat_le most_parameters (length xs), Limit) ∷ []
+tests E (ends_predicate p n) = []
+tests E joins = (nat_le most_joints E.joints, Limit) ∷ []
+tests E (binds x) = (is_long x, Limit) ∷ (nat_le most_joints E.joints, Limit) ∷ []
+tests E (stands x c) = (c.closed && not (is_among x c.bound), Loose) ∷ (is_long x, Limit) ∷ []
+tests E (heads (named f)) =
+    (not (is_declared (declared E.signature f)), Unknown) ∷ (is_declared_as kind.Pred (declared E.signature f), Sort)
+    ∷ (is_long f, Limit) ∷ []
+tests E (begins_atom f) = (not (is_declared (declared E.signature f)), Unknown) ∷ (is_long f, Limit) ∷ []
+tests E (heads (further text)) = (nat_lt greatest_index (index_of text), Limit) ∷ []
+tests E (opens_arguments (named f)) = (nat_eq (arity_in (declared E.signature f)) 0, Arity) ∷ []
+tests E (opens_arguments (further i)) = []
+tests E (no_arguments (named f)) = (nat_lt 0 (arity_in (declared E.signature f)), Arity) ∷ []
+tests E (no_arguments (further i)) = []
+tests E (separates (named f) n) = (nat_le (arity_in (declared E.signature f)) n, Arity) ∷ []
+tests E (separates (further i) n) = (nat_le most_arguments n, Limit) ∷ []
+tests E (closes (named f) n) = (nat_lt n (arity_in (declared E.signature f)), Arity) ∷ []
+tests E (closes (further i) n) = []
+tests E (compares f) = (is_declared_as kind.Pred (declared E.signature f), Sort) ∷ []
+tests E (stands_alone f) = (is_declared_as kind.Symbol (declared E.signature f), Sort) ∷ []
+tests E (plays p) =
+    (not (is_declared (declared E.signature p)), Unknown)
     ∷ (is_declared_as kind.Pred (declared E.signature p) && not (nat_eq (arity_in (declared E.signature p)) 2), Arity)
-    ∷ (is_declared_as kind.Symbol (declared E.signature p), Sort) ∷ (is_long p, Limit) ∷ [])
-check E (counts digits) = first_of ((nat_lt 1000 (value_of digits), Limit) ∷ [])
+    ∷ (is_declared_as kind.Symbol (declared E.signature p), Sort) ∷ (is_long p, Limit) ∷ []
+tests E (counts digits) = (nat_lt most_moves (value_of digits), Limit) ∷ []
+
+-- what is wrong with it
+abbrev pub check : Environment → Role → Option FaultKind
+check E role = first_of (tests E role)
 
 -- what a word in this role leaves
 abbrev pub update : Environment → Role → Environment
@@ -139,7 +148,7 @@ sooner None y = y
 sooner (Some x) None = Some x
 sooner (Some x) (Some y) = if nat_le (rank x) (rank y) then Some x else Some y
 
--- what is wrong with a word in these roles, where this is wrong with it already
+-- what is wrong with a word in these roles, one after another, where this is wrong with it already
 abbrev pub check_all : Environment → Option FaultKind → List Role → Option FaultKind
 check_all E wrong [] = wrong
-check_all E wrong (role ∷ roles) = check_all E (sooner wrong (check E role)) roles
+check_all E wrong (role ∷ roles) = check_all (update E role) (sooner wrong (check E role)) roles

@@ -8,4 +8,6 @@ fn laws_can_be_called(_rt: HostRuntime) {
     lawful_is_faultless();
     at_most_one_outcome();
     files_are_well_formed();
+    kinds_say_why();
+    at_most_one_fault();
 }

@@ -1,6 +1,6 @@
 -- What the tests on names and formulas find.
-use Rattle.std.proofs.Common.{◌≡◌, ◌≢◌, ℕ, zero, suc, ◌+◌, ◌<◌, ◌⊎◌, inl, inr, List, [], ◌∷◌, take, length, Some, Bool, true, false, nat_lt, slice_range, refl, sym, ap, ◌∙◌, subst, arith}
-use Rattle.std.specs.Prelude.{All, slice_get, option_and_then, IfSome}
+use Rattle.std.proofs.Common.{◌≡◌, ◌≢◌, ℕ, suc, ◌+◌, ◌<◌, ◌⊎◌, inl, inr, List, [], ◌∷◌, take, length, Some, Bool, true, false, nat_lt, slice_range, refl, sym, ap, ◌∙◌, arith}
+use Rattle.std.specs.Prelude.{All, slice_get}
 use Rattle.std.specs.Bool.{OnTrue}
 use Rattle.std.proofs.lemmas.Bool.Decides.{nat_tests}
 use Rattle.std.proofs.lemmas.Slice.{between_to_end}
@@ -12,31 +12,21 @@ use Rattle.formula_ast.specs.Forms.{form_of}
 use Rattle.formula_ast.specs.Tokens.{kind_of}
 use Rattle.formula_ast.proofs.Ties.{always_form, never_form, equal_form, differ_form, finite_form, call_form, win_form, no_form, and_form, or_form, imp_form, iff_form, exists_form, forall_form}
 use Rattle.std.proofs.lemmas.List.Elements.{All-append, All-cons, All-nil}
-use Rattle.tree_model.specs.declared.tree.Symbol.{Symbol}
-use Rattle.tree_model.specs.Signatures.{Signature, IsRoot, declared_at}
-use Rattle.signature.specs.Names.{StandsAt}
+use Rattle.tree_model.specs.Signatures.{Signature, declared_at}
 use Rattle.formula_ast.specs.declared.term.Term.{Term}
-use Rattle.formula_ast.specs.declared.term.Term.TheVariants as term
-use Rattle.formula_ast.specs.declared.term.Term.TheViews.{out-Term}
 use Rattle.formula_ast.specs.declared.term.Terms.{Terms}
-use Rattle.formula_ast.specs.Terms.{list_of, subterm, argument}
+use Rattle.formula_ast.specs.Terms.{list_of}
 use Rattle.formula_ast.specs.WellFormed.{AreDistinct}
 use Rattle.formula_ast.proofs.Lists.{take_more_got}
 use Rattle.formula_grammar.specs.Written.{Text}
-use Rattle.formula_printer.specs.Printable.{LayerFits, TermFits, FormFits}
+use Rattle.formula_printer.specs.Printable.{TermFits, FormFits}
 use Rattle.formula_printer.specs.Writing.{text_at, names_of}
 use Rattle.formula_printer.proofs.Layers.{within}
-use Rattle.formula_printer.proofs.Lists.{named_at}
+use Rattle.formula_printer.proofs.Places.{named_at, same_text}
 use Rattle.std.specs.Str.{bytes_eq}
-use Rattle.formula_printer.proofs.Places.{same_text}
 
 pub one_more_item : {A : Type 0} (P : A → Type 0) (xs : List A) (i : ℕ) (x : A) → slice_get xs i ≡ Some x → All P (take i xs) → P x → All P (take (i + 1) xs)
 one_more_item P xs i x got all here = rw (take_more_got xs i x got) (All-append P (take i xs) (x ∷ []) all (All-cons P x [] here (All-nil P)))
-
-pub declared_at_place : (σ : Signature) (i : ℕ) (name : Text) → StandsAt σ name i → slice_get (names_of σ) i ≡ Some name
-declared_at_place [] i name got = absurd (cc got)
-declared_at_place (entry ∷ σ) zero name got = got
-declared_at_place (entry ∷ σ) (suc i) name got = declared_at_place σ i name got
 
 order : (i j : ℕ) → (i ≡ j) ⊎ ((i < j) ⊎ (j < i))
 order i j = grind arith
@@ -51,25 +41,6 @@ distinct_from names apart text i j at_i at_j = by (order i j)
     by (inl e) = e
     by (inr (inl less)) = absurd (apart j (within names j text at_j) i less same)
     by (inr (inr less)) = absurd (apart i (within names i text at_i) j less (sym same))
-
-module _ (σ : Signature) (n : ℕ) where
-  pub variable_fits_in : (v : ℕ) → v < n → TermFits σ n (term.Var v)
-  variable_fits_in v h [] = subst (LayerFits σ n) (sym (term.outs-Var v)) h
-  variable_fits_in v h (i ∷ path) =
-      subst (λ o. IfSome o (λ u. LayerFits σ n (out-Term u))) (sym (ap (λ z. option_and_then {T = Term} {U = Term} (λ u. subterm u path) (argument z i)) (term.outs-Var v))) tt
-
-  each_fits : (ts : List Term) → All (TermFits σ n) ts → (i : ℕ) (path : List ℕ)
-      → IfSome (option_and_then {T = Term} {U = Term} (λ u. subterm u path) (slice_get ts i)) (λ u. LayerFits σ n (out-Term u))
-  each_fits [] h i path = tt
-  each_fits (t ∷ ts) h zero path = h 0 t (omega arith) path
-  each_fits (t ∷ ts) h (suc i) path = each_fits ts (λ j d w. h (suc j) d (omega arith)) i path
-
-  pub application_fits_in : (s : Symbol) (ts : Terms) → IsRoot σ s (length (list_of ts)) → All (TermFits σ n) (list_of ts) → TermFits σ n (term.App s ts)
-  application_fits_in s ts root all [] = subst (LayerFits σ n) (sym (term.outs-App s ts)) root
-  application_fits_in s ts root all (i ∷ path) =
-      subst (λ o. IfSome o (λ u. LayerFits σ n (out-Term u)))
-      (sym (ap (λ z. option_and_then {T = Term} {U = Term} (λ u. subterm u path) (argument z i)) (term.outs-App s ts)))
-      (each_fits (list_of ts) all i path)
 
 -- ---- what a test that succeeds says
 

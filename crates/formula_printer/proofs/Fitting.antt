@@ -10,12 +10,14 @@ use Rattle.formula_ast.specs.declared.formula.Formula.TheVariants as v
 use Rattle.formula_ast.specs.Forms.{form_of}
 use Rattle.formula_ast.specs.Terms.{list_of}
 use Rattle.formula_ast.proofs.Ties.{always_form, never_form, equal_form, differ_form, finite_form, call_form, win_form, no_form, and_form, or_form, imp_form, iff_form, exists_form, forall_form}
-use Rattle.formula_grammar.specs.Written.{Text}
+use Rattle.formula_grammar.specs.Written.{Text, Quantifier, exists, forall}
 use Rattle.formula_printer.specs.Numerals.{numeral}
 use Rattle.formula_printer.specs.Printable.{FormFits, TermFits}
+use Rattle.formula_printer.specs.Steps.{behind_quantifier}
 use Rattle.formula_printer.specs.Texts.{term_text, arguments_text, text_of}
-use Rattle.formula_printer.specs.Writing.{text_at, names_of, written_term, written_terms, written, level, placed}
+use Rattle.formula_printer.specs.Writing.{text_at, names_of, written_term, written_terms, written, placed, quantify}
 use Rattle.formula_printer.proofs.Layers.{declared_within}
+use Rattle.formula_printer.proofs.Levels.{text_quantify}
 
 module _ (σ : Signature) (n : ℕ) where
   pub fits_equal : (f : Formula) (t u : Term) → f ≡ v.Eq t u → FormFits σ n (form_of f) → TermFits σ n t × TermFits σ n u
@@ -63,7 +65,7 @@ module _ (σ : Signature) (names : List Text) where
   whole f = text_of (written σ names (form_of f))
 
   abbrev at_place : ℕ → Formula → Text
-  at_place asked f = text_of (placed asked (level (form_of f)) (written σ names (form_of f)))
+  at_place asked f = text_of (placed asked (written σ names (form_of f)))
 
   abbrev term : Term → Text
   term t = term_text (written_term σ names t)
@@ -104,3 +106,13 @@ module _ (σ : Signature) (names : List Text) where
 
   pub iff_text : (f g h : Formula) → f ≡ v.Iff g h → whole f ≡ (at_place 2 g ++ codes " <-> ") ++ at_place 2 h
   iff_text f g h is = rw (is, iff_form) refl
+
+  -- what stands behind the word of a quantifier
+  abbrev bound : Quantifier → ℕ → Formula → Text
+  bound q x g = behind_quantifier (quantify q (text_at names x) (placed 5 (written σ names (form_of g))))
+
+  pub exists_text : (f : Formula) (x : ℕ) (g : Formula) → f ≡ v.Exists x g → whole f ≡ codes "exists" ++ bound exists x g
+  exists_text f x g is = rw (is, exists_form) (text_quantify exists (text_at names x) (placed 5 (written σ names (form_of g))))
+
+  pub forall_text : (f : Formula) (x : ℕ) (g : Formula) → f ≡ v.Forall x g → whole f ≡ codes "forall" ++ bound forall x g
+  forall_text f x g is = rw (is, forall_form) (text_quantify forall (text_at names x) (placed 5 (written σ names (form_of g))))

@@ -9,17 +9,17 @@ use Rattle.std.proofs.lemmas.Bool.{eqb-true}
 use Rattle.std.proofs.lemmas.List.{take_at}
 use Rattle.formula_ast.specs.declared.token.TokenKind.{TokenKind}
 use Rattle.formula_ast.specs.declared.token.TokenKind.TheVariants as k
-use Rattle.formula_ast.specs.Tokens.{is_word_byte, is_number, kind_in, kind_of, reserved, marks, front, Word}
+use Rattle.formula_ast.specs.Tokens.{is_word_byte, is_number, kind_in, kind_of, reserved, marks, front}
 use Rattle.formula_tokens.specs.Fronts.{begins_word, separates}
 use Rattle.formula_tokens.proofs.Begins.{word_begins, variable_begins, number_begins, further_begins, mark_of_one, mark_of_two, mark_of_three}
 use Rattle.formula_tokens.proofs.Texts.{small, capital, name, no_name, variable, no_variable, number, no_number, further, mark}
 use Rattle.formula_grammar.specs.Written.{Text}
 
--- the word is the longest token at the front of its text with these bytes behind it
-pub record IsFront (w : Word) (tail : List ℕ) : Type 0 where
-  pub longest : front (w.text ++ tail) ≡ Some (w.kind, length w.text)
-  pub some : 0 < length w.text
-  pub plain : separates (get_or (w.text ++ tail) 0 0) ≡ false
+-- the text is the longest token at its front with these bytes behind it, and of this kind
+pub record IsFront (kind : TokenKind) (text : Text) (tail : List ℕ) : Type 0 where
+  pub longest : front (text ++ tail) ≡ Some (kind, length text)
+  pub some : 0 < length text
+  pub plain : separates (get_or (text ++ tail) 0 0) ≡ false
 
 -- no byte of a word stands at the front
 abbrev pub Ends : List ℕ → Type 0
@@ -28,7 +28,7 @@ Ends tail = is_word_byte (get_or tail 0 0) ≡ false
 -- ---- texts of each kind
 
 -- what a table says passes a test that all its kinds pass
-listed : (q : TokenKind → Bool) (table : List (Text × TokenKind)) (text : Text) (kind : TokenKind)
+pub listed : (q : TokenKind → Bool) (table : List (Text × TokenKind)) (text : Text) (kind : TokenKind)
     → list_all (λ form. q form.1) table ≡ true → kind_in table text ≡ Some kind → q kind ≡ true
 listed q [] text kind all e = absurd (cc e)
 listed q (form ∷ table) text kind all e = step (λ rest. listed q table text kind rest) (bytes_eq text form.0) refl (q form.1) refl all e
@@ -131,7 +131,7 @@ no_digit b h = grind (arith, nat_tests)
 
 -- a name or a reserved word
 pub small_front : (b : ℕ) (t : Text) (kind : TokenKind) (tail : List ℕ) → is_ascii_lowercase b ≡ true → all_word t ≡ true → unwrap_or (kind_in reserved (b ∷ t)) k.Name ≡ kind
-    → Ends tail → IsFront (record { kind = kind; text = b ∷ t }) tail
+    → Ends tail → IsFront kind (b ∷ t) tail
 small_front b t kind tail l all is ends =
     let whole : all_word (b ∷ t) ≡ true = rw (small b l).0 all in
     record {
@@ -143,7 +143,7 @@ small_front b t kind tail l all is ends =
       plain = small_plain b l;
     }
 
-pub name_front : (x : Text) (tail : List ℕ) → kind_of x ≡ Some k.Name → Ends tail → IsFront (record { kind = k.Name; text = x }) tail
+pub name_front : (x : Text) (tail : List ℕ) → kind_of x ≡ Some k.Name → Ends tail → IsFront k.Name x tail
 unfolding kind_of
 name_front [] tail e ends = absurd (cc e)
 name_front (b ∷ t) tail e ends =
@@ -151,7 +151,7 @@ name_front (b ∷ t) tail e ends =
     let is : ◌≡◌ {A = Option TokenKind} (Some (unwrap_or (kind_in reserved (b ∷ t)) k.Name)) (Some k.Name) = sym (name b t s.0 s.1) ∙ e in
     small_front b t k.Name tail s.0 s.1 (cc is) ends
 
-pub variable_front : (x : Text) (tail : List ℕ) → kind_of x ≡ Some k.Variable → Ends tail → IsFront (record { kind = k.Variable; text = x }) tail
+pub variable_front : (x : Text) (tail : List ℕ) → kind_of x ≡ Some k.Variable → Ends tail → IsFront k.Variable x tail
 unfolding kind_of
 variable_front [] tail e ends = absurd (cc e)
 variable_front (b ∷ t) tail e ends =
@@ -167,7 +167,7 @@ and_left : (x y : Bool) → (x && y) ≡ true → x ≡ true
 and_left true y h = refl
 and_left false y h = absurd (cc h)
 
-pub number_front : (x : Text) (tail : List ℕ) → is_number x ≡ true → Ends tail → IsFront (record { kind = k.Number; text = x }) tail
+pub number_front : (x : Text) (tail : List ℕ) → is_number x ≡ true → Ends tail → IsFront k.Number x tail
 number_front [] tail e ends = absurd (cc e)
 number_front (b ∷ t) tail e ends =
     let first = and_left (is_ascii_digit b) (all_digits t) e in
@@ -183,7 +183,7 @@ number_digits : (d : Text) → is_number d ≡ true → (all_digits d ≡ true) 
 number_digits [] h = absurd (cc h)
 number_digits (b ∷ t) h = (h, omega arith)
 
-pub further_front : (d : Text) (tail : List ℕ) → is_number d ≡ true → Ends tail → IsFront (record { kind = k.Further; text = 36 ∷ d }) tail
+pub further_front : (d : Text) (tail : List ℕ) → is_number d ≡ true → Ends tail → IsFront k.Further (36 ∷ d) tail
 further_front d tail e ends =
     let digits = number_digits d e in
     record {
@@ -199,53 +199,66 @@ further_front d tail e ends =
 
 one_front : (a : ℕ) (kind : TokenKind) (tail : List ℕ) → begins_word a ≡ false → separates a ≡ false
     → kind_in marks (a ∷ get_or tail 0 0 ∷ get_or tail 1 0 ∷ []) ≡ None → kind_in marks (a ∷ get_or tail 0 0 ∷ []) ≡ None → kind_in marks (a ∷ []) ≡ Some kind
-    → IsFront (record { kind = kind; text = a ∷ [] }) tail
+    → IsFront kind (a ∷ []) tail
 one_front a kind tail h plain e3 e2 e = record {
   longest = sym (mark_of_one (a ∷ tail) a (get_or tail 0 0) (get_or tail 1 0) h refl refl refl (Some kind) e3 e2 e);
   some = omega arith;
   plain = plain;
 }
 
-pub left_front : (tail : List ℕ) → IsFront (record { kind = k.LeftParen; text = codes "(" }) tail
+pub left_front : (tail : List ℕ) → IsFront k.LeftParen (codes "(") tail
 left_front tail = one_front 40 k.LeftParen tail refl refl refl refl refl
 
-pub right_front : (tail : List ℕ) → IsFront (record { kind = k.RightParen; text = codes ")" }) tail
+pub right_front : (tail : List ℕ) → IsFront k.RightParen (codes ")") tail
 right_front tail = one_front 41 k.RightParen tail refl refl refl refl refl
 
-pub comma_front : (tail : List ℕ) → IsFront (record { kind = k.Comma; text = codes "," }) tail
+pub comma_front : (tail : List ℕ) → IsFront k.Comma (codes ",") tail
 comma_front tail = one_front 44 k.Comma tail refl refl refl refl refl
 
-pub amp_front : (tail : List ℕ) → IsFront (record { kind = k.Amp; text = codes "&" }) tail
+pub stop_front : (tail : List ℕ) → IsFront k.Stop (codes ".") tail
+stop_front tail = one_front 46 k.Stop tail refl refl refl refl refl
+
+pub slash_front : (tail : List ℕ) → IsFront k.Slash (codes "/") tail
+slash_front tail = one_front 47 k.Slash tail refl refl refl refl refl
+
+pub amp_front : (tail : List ℕ) → IsFront k.Amp (codes "&") tail
 amp_front tail = one_front 38 k.Amp tail refl refl refl refl refl
 
-pub bar_front : (tail : List ℕ) → IsFront (record { kind = k.Bar; text = codes "|" }) tail
+pub bar_front : (tail : List ℕ) → IsFront k.Bar (codes "|") tail
 bar_front tail = one_front 124 k.Bar tail refl refl refl refl refl
 
-pub tilde_front : (tail : List ℕ) → IsFront (record { kind = k.Tilde; text = codes "~" }) tail
+pub tilde_front : (tail : List ℕ) → IsFront k.Tilde (codes "~") tail
 tilde_front tail = one_front 126 k.Tilde tail refl refl refl refl refl
 
-pub equal_front : (tail : List ℕ) → IsFront (record { kind = k.Equal; text = codes "=" }) tail
+pub equal_front : (tail : List ℕ) → IsFront k.Equal (codes "=") tail
 equal_front tail = one_front 61 k.Equal tail refl refl refl refl refl
 
 -- a colon with a blank behind it
-pub colon_front : (tail : List ℕ) → IsFront (record { kind = k.Colon; text = codes ":" }) (32 ∷ tail)
+pub colon_front : (tail : List ℕ) → IsFront k.Colon (codes ":") (32 ∷ tail)
 colon_front tail = one_front 58 k.Colon (32 ∷ tail) refl refl refl refl refl
 
-pub differ_front : (tail : List ℕ) → IsFront (record { kind = k.Differ; text = codes "!=" }) tail
+pub differ_front : (tail : List ℕ) → IsFront k.Differ (codes "!=") tail
 differ_front tail = record {
   longest = sym (mark_of_two (33 ∷ 61 ∷ tail) 33 61 (get_or tail 0 0) refl refl refl refl k.Differ refl refl);
   some = omega arith;
   plain = refl;
 }
 
-pub arrow_front : (tail : List ℕ) → IsFront (record { kind = k.Arrow; text = codes "->" }) tail
+pub define_front : (tail : List ℕ) → IsFront k.Define (codes ":=") tail
+define_front tail = record {
+  longest = sym (mark_of_two (58 ∷ 61 ∷ tail) 58 61 (get_or tail 0 0) refl refl refl refl k.Define refl refl);
+  some = omega arith;
+  plain = refl;
+}
+
+pub arrow_front : (tail : List ℕ) → IsFront k.Arrow (codes "->") tail
 arrow_front tail = record {
   longest = sym (mark_of_two (45 ∷ 62 ∷ tail) 45 62 (get_or tail 0 0) refl refl refl refl k.Arrow refl refl);
   some = omega arith;
   plain = refl;
 }
 
-pub double_front : (tail : List ℕ) → IsFront (record { kind = k.DoubleArrow; text = codes "<->" }) tail
+pub double_front : (tail : List ℕ) → IsFront k.DoubleArrow (codes "<->") tail
 double_front tail = record {
   longest = sym (mark_of_three (60 ∷ 45 ∷ 62 ∷ tail) 60 45 62 refl refl refl refl k.DoubleArrow refl);
   some = omega arith;

@@ -21,17 +21,17 @@ use Rattle.formula_ast.specs.Forms.{Form}
 use Rattle.formula_ast.specs.Terms.{list_of}
 use Rattle.formula_ast.specs.Tokens.{kind_of}
 use Rattle.formula_grammar.specs.Checks.{is_among}
-use Rattle.formula_grammar.specs.Lawful.{count, UsesSymbols, AllUseSymbols, UsesNames}
-use Rattle.formula_grammar.specs.Meaning.{variables_of, all_variables_of, variables_in, number_in, place_in, IsTerm, AreTerms, Stands}
-use Rattle.formula_grammar.specs.Written.{Text, WrittenTerm, variable, named, further, WrittenTerms, no_terms, one_more, WrittenFormula, exists, forall, group}
+use Rattle.formula_grammar.specs.Grammar.{level, left, right, IsLevelled}
+use Rattle.formula_grammar.specs.Names.{TakesArguments, count, UsesSymbols, AllUseSymbols, UsesNames}
+use Rattle.formula_grammar.specs.Meaning.{variables_of, all_variables_of, variables_in, number_in, place_in, head_symbol, joint_form, comparer_form, quantifier_form, IsTerm, AreTerms, Stands}
+use Rattle.formula_grammar.specs.Written.{Text, Head, WrittenTerm, variable, headed, WrittenTerms, no_terms, one_more, Joint, and, or, imp, iff, Quantifier, exists, forall, Comparer, equals, differs, WrittenFormula, compared, group, quantified}
 use Rattle.formula_printer.specs.Numerals.{numeral}
 use Rattle.formula_printer.specs.Printable.{LayerFits, TermFits, FormFits, AreNames}
-use Rattle.formula_printer.specs.Writing.{text_at, names_of, applied, written_term, written_terms, written, level, placed, for_some, for_all}
+use Rattle.formula_printer.specs.Writing.{text_at, names_of, symbol_head, written_term, written_terms, written, placed, between, quantify}
 use Rattle.formula_printer.proofs.Decimals.{numeral_value, numeral_number}
 use Rattle.formula_printer.proofs.Layers.{written-var, written-app, variable_fits, arguments_fit, declared_within}
 use Rattle.formula_printer.proofs.Places.{numbered, place_is, declared_is, is_known}
-use Rattle.formula_printer.proofs.Printed.{TermHasWords, TermsHaveWords, HasWords}
-use Rattle.formula_printer.proofs.Reading.{IsLevelled, level_of}
+use Rattle.formula_printer.proofs.Printed.{HeadHasWord, TermHasWords, TermsHaveWords, HasWords}
 
 as_variable : (t : Term) (v : ℕ) → out-Term t ≡ layer.Var v → t ≡ term.Var v
 as_variable t v is = sym (roll-out-Term t) ∙ ap roll-Term is ∙ term.rolls-Var v
@@ -81,71 +81,43 @@ module _ (σ : Signature) (names : List Text) (good : AreNames σ names) (distin
         known = one_known v fits;
       })
   good_variable x t (layer.App s ts) is e h =
-      let same : applied σ s (written_terms σ names (list_of ts)) ≡ variable x =
+      let same : headed (symbol_head σ s) (written_terms σ names (list_of ts)) ≡ variable x =
       sym (ap (written_term σ names) (as_application t s ts is) ∙ written-app σ names s ts) ∙ e in
-      not_applied s same
-    where
-      not_applied : {A : Type 0} (s : Symbol) → applied σ s (written_terms σ names (list_of ts)) ≡ variable x → A
-      not_applied (Named place) e = absurd (cc e)
-      not_applied (Further index) e = absurd (cc e)
-
-  good_named : (f : Text) (ws : WrittenTerms) (t : Term)
-      → ((ts : List Term) → written_terms σ names ts ≡ ws → All (TermFits σ (length names)) ts → AreGoodTerms σ names ws ts)
-      → (l : Term-F Term Terms) → out-Term t ≡ l → written_term σ names t ≡ named f ws → TermFits σ (length names) t → IsGoodTerm σ names (named f ws) t
-  good_named f ws t all (layer.Var v) is e h =
-      let same : variable (text_at names v) ≡ named f ws = sym (ap (written_term σ names) (as_variable t v is) ∙ written-var σ names v) ∙ e in
       absurd (cc same)
-  good_named f ws t all (layer.App s ts) is e h =
+
+  -- a symbol with so many arguments
+  head_good : (s : Symbol) (n : ℕ) → IsRoot σ s n → (s ≡ head_symbol σ (symbol_head σ s)) × TakesArguments σ (symbol_head σ s) n × HeadHasWord (symbol_head σ s)
+  head_good (Named place) n root =
+      let below : place < length σ = declared_within σ place (kind.Symbol, n) root in
+      (ap (λ i. Named i) (place_is σ place distinct below), declared_is σ place (kind.Symbol, n) distinct below root, name_word place below)
+  head_good (Further index) n root = (ap (λ i. Further i) (sym (numeral_value index)), tt, (numeral index, refl, numeral_number index))
+
+  good_headed : (head : Head) (ws : WrittenTerms) (t : Term)
+      → ((ts : List Term) → written_terms σ names ts ≡ ws → All (TermFits σ (length names)) ts → AreGoodTerms σ names ws ts)
+      → (l : Term-F Term Terms) → out-Term t ≡ l → written_term σ names t ≡ headed head ws → TermFits σ (length names) t → IsGoodTerm σ names (headed head ws) t
+  good_headed head ws t all (layer.Var v) is e h =
+      let same : variable (text_at names v) ≡ headed head ws = sym (ap (written_term σ names) (as_variable t v is) ∙ written-var σ names v) ∙ e in
+      absurd (cc same)
+  good_headed head ws t all (layer.App s ts) is e h =
       let t_is : t ≡ term.App s ts = as_application t s ts is in
       let fits : TermFits σ (length names) (term.App s ts) = subst (TermFits σ (length names)) t_is h in
       let root : IsRoot σ s (length (list_of ts)) = subst (LayerFits σ (length names)) (term.outs-App s ts) (fits []) in
-      by s t_is root (λ same. all (list_of ts) same (arguments_fit σ (length names) s ts fits)) (sym (ap (written_term σ names) t_is ∙ written-app σ names s ts) ∙ e)
-    where
-      by : (s : Symbol) → t ≡ term.App s ts → IsRoot σ s (length (list_of ts)) → (written_terms σ names (list_of ts) ≡ ws → AreGoodTerms σ names ws (list_of ts))
-          → applied σ s (written_terms σ names (list_of ts)) ≡ named f ws → IsGoodTerm σ names (named f ws) t
-      by (Further index) t_is root rest same = absurd (cc same)
-      by (Named place) t_is root rest same =
-          let f_is : text_at (names_of σ) place ≡ f = cc same in
-          let ws_is : written_terms σ names (list_of ts) ≡ ws = cc same in
-          let below : place < length σ = declared_within σ place (kind.Symbol, length (list_of ts)) root in
-          let args = rest ws_is in
-          subst (λ x. IsGoodTerm σ names (named x ws) t) f_is (record {
-            is = (ts, t_is ∙ ap (λ i. term.App (Named i) ts) (place_is σ place distinct below), args.are);
-            uses = (rw args.counted (declared_is σ place (kind.Symbol, length (list_of ts)) distinct below root), args.use_names);
-            words = (name_word place below, args.words);
-            known = args.known;
-          })
-
-  good_further : (i : Text) (ws : WrittenTerms) (t : Term)
-      → ((ts : List Term) → written_terms σ names ts ≡ ws → All (TermFits σ (length names)) ts → AreGoodTerms σ names ws ts)
-      → (l : Term-F Term Terms) → out-Term t ≡ l → written_term σ names t ≡ further i ws → TermFits σ (length names) t → IsGoodTerm σ names (further i ws) t
-  good_further i ws t all (layer.Var v) is e h =
-      let same : variable (text_at names v) ≡ further i ws = sym (ap (written_term σ names) (as_variable t v is) ∙ written-var σ names v) ∙ e in
-      absurd (cc same)
-  good_further i ws t all (layer.App s ts) is e h =
-      let t_is : t ≡ term.App s ts = as_application t s ts is in
-      let fits : TermFits σ (length names) (term.App s ts) = subst (TermFits σ (length names)) t_is h in
-      by s t_is (λ same. all (list_of ts) same (arguments_fit σ (length names) s ts fits)) (sym (ap (written_term σ names) t_is ∙ written-app σ names s ts) ∙ e)
-    where
-      by : (s : Symbol) → t ≡ term.App s ts → (written_terms σ names (list_of ts) ≡ ws → AreGoodTerms σ names ws (list_of ts))
-          → applied σ s (written_terms σ names (list_of ts)) ≡ further i ws → IsGoodTerm σ names (further i ws) t
-      by (Named place) t_is rest same = absurd (cc same)
-      by (Further index) t_is rest same =
-          let i_is : 36 ∷ numeral index ≡ i = cc same in
-          let ws_is : written_terms σ names (list_of ts) ≡ ws = cc same in
-          let args = rest ws_is in
-          subst (λ x. IsGoodTerm σ names (further x ws) t) i_is (record {
-            is = (ts, t_is ∙ ap (λ n. term.App (Further n) ts) (sym (numeral_value index)), args.are);
-            uses = args.use_names;
-            words = ((numeral index, refl, numeral_number index), args.words);
-            known = args.known;
-          })
+      let same : headed (symbol_head σ s) (written_terms σ names (list_of ts)) ≡ headed head ws = sym (ap (written_term σ names) t_is ∙ written-app σ names s ts) ∙ e in
+      let head_is : symbol_head σ s ≡ head = cc same in
+      let ws_is : written_terms σ names (list_of ts) ≡ ws = cc same in
+      let args = all (list_of ts) ws_is (arguments_fit σ (length names) s ts fits) in
+      let good = head_good s (length (list_of ts)) root in
+      subst (λ x. IsGoodTerm σ names (headed x ws) t) head_is (record {
+        is = (ts, t_is ∙ ap (λ i. term.App i ts) good.0, args.are);
+        uses = (rw args.counted good.1, args.use_names);
+        words = (good.2, args.words);
+        known = args.known;
+      })
 
   mutual
     term_good : (w : WrittenTerm) (t : Term) → written_term σ names t ≡ w → TermFits σ (length names) t → IsGoodTerm σ names w t
     term_good (variable x) t e h = good_variable x t (out-Term t) refl e h
-    term_good (named f ws) t e h = good_named f ws t (λ ts same fits. terms_good ws ts same fits) (out-Term t) refl e h
-    term_good (further i ws) t e h = good_further i ws t (λ ts same fits. terms_good ws ts same fits) (out-Term t) refl e h
+    term_good (headed head ws) t e h = good_headed head ws t (λ ts same fits. terms_good ws ts same fits) (out-Term t) refl e h
 
     terms_good : (ws : WrittenTerms) (ts : List Term) → written_terms σ names ts ≡ ws → All (TermFits σ (length names)) ts → AreGoodTerms σ names ws ts
     terms_good no_terms [] e h = record { are = refl; use_names = tt; words = tt; known = All-nil (Known names); counted = refl }
@@ -182,100 +154,92 @@ pub record IsGood (σ : Signature) (names : List Text) (w : WrittenFormula) (f :
 -- and at a place that asks for a level
 pub record IsGoodAt (asked : ℕ) (σ : Signature) (names : List Text) (w : WrittenFormula) (f : Form) : Type 0 where
   pub good : IsGood σ names w f
-  pub enough : asked ≤ level_of w
+  pub enough : asked ≤ level w
 
-placed_good : (asked : ℕ) → asked ≤ 5 → (σ : Signature) (names : List Text) (w : WrittenFormula) (f : Form) → level f ≡ level_of w → IsGood σ names w f
-    → IsGoodAt asked σ names (placed asked (level f) w) f
-placed_good asked low σ names w f is h = step (nat_lt (level f) asked) refl
+operand : (asked : ℕ) → asked ≤ 5 → {σ : Signature} {names : List Text} {f : Form} (w : WrittenFormula) → IsGood σ names w f → IsGoodAt asked σ names (placed asked w) f
+operand asked low {σ} {names} {f} w h = step (nat_lt (level w) asked) refl
   where
-    step : (b : Bool) → nat_lt (level f) asked ≡ b → IsGoodAt asked σ names (cond b (group w) w) f
+    step : (b : Bool) → nat_lt (level w) asked ≡ b → IsGoodAt asked σ names (cond b (group w) w) f
     step true e = record {
       good = record { stands = h.stands; uses = h.uses; words = h.words; known = h.known; levelled = h.levelled };
       enough = low;
     }
     step false e = record { good = h; enough = grind (arith, nat_tests) }
 
--- what is written has the level of the formula
-some_level : (x : Text) (w : WrittenFormula) → 5 ≡ level_of (for_some x w)
-some_level x (exists xs f) = refl
-some_level x w = refl
+left_low : (j : Joint) → left j ≤ 5
+left_low and = omega arith
+left_low or = omega arith
+left_low imp = omega arith
+left_low iff = omega arith
 
-all_level : (x : Text) (w : WrittenFormula) → 5 ≡ level_of (for_all x w)
-all_level x (forall xs f) = refl
-all_level x w = refl
+right_low : (j : Joint) → right j ≤ 5
+right_low and = omega arith
+right_low or = omega arith
+right_low imp = omega arith
+right_low iff = omega arith
 
-level_kept : (σ : Signature) (names : List Text) (f : Form) → level f ≡ level_of (written σ names f)
-level_kept σ names (form.exists x f) = some_level (text_at names x) (placed 5 (level f) (written σ names f))
-level_kept σ names (form.forall x f) = all_level (text_at names x) (placed 5 (level f) (written σ names f))
-level_kept σ names f = refl
+module _ (σ : Signature) (names : List Text) where
+  joined_good : (j : Joint) (v w : WrittenFormula) (f g : Form) → IsGood σ names v f → IsGood σ names w g → IsGood σ names (between j v w) (joint_form j f g)
+  joined_good j v w f g h k =
+      let a = operand (left j) (left_low j) v h in
+      let b = operand (right j) (right_low j) w k in
+      record {
+        stands = (f, g, refl, a.good.stands, b.good.stands);
+        uses = (a.good.uses, b.good.uses);
+        words = (a.good.words, b.good.words);
+        known = All-append (Known names) _ _ a.good.known b.good.known;
+        levelled = (a.enough, b.enough, a.good.levelled, b.good.levelled);
+      }
 
 module _ (σ : Signature) (names : List Text) (good : AreNames σ names) (distinct : HasDistinctNames σ) where
-  some_good : (x : ℕ) → x < length names → (w : WrittenFormula) (f : Form) → IsGoodAt 5 σ names w f → IsGood σ names (for_some (text_at names x) w) (form.exists x f)
-  some_good x below (exists xs w) f h = record {
-    stands = (
-      h.good.stands.0,
-      ap (λ i. form.exists i f) (sym (numbered names x good.distinct below)) ∙ ap (λ b. form.exists (number_in names (text_at names x)) b) h.good.stands.1,
-      h.good.stands.2,
-    );
-    uses = h.good.uses;
-    words = ((variable_word σ names good distinct x below, h.good.words.0), h.good.words.1);
-    known = All-cons (Known names) (text_at names x) (xs ++ variables_in w) (is_known names x below) h.good.known;
-    levelled = (omega arith, h.good.levelled.1, h.good.levelled.2);
-  }
-  some_good x below w f h = record {
-    stands = (f, ap (λ i. form.exists i f) (sym (numbered names x good.distinct below)), h.good.stands);
-    uses = h.good.uses;
-    words = ((variable_word σ names good distinct x below, tt), h.good.words);
-    known = All-cons (Known names) (text_at names x) (variables_in w) (is_known names x below) h.good.known;
-    levelled = (omega arith, h.enough, h.good.levelled);
-  }
+  compared_good : (r : Comparer) (t u : Term) → TermFits σ (length names) t → TermFits σ (length names) u
+      → IsGood σ names (compared r (written_term σ names t) (written_term σ names u)) (comparer_form r t u)
+  compared_good r t u h k =
+      let a = good_term σ names good distinct t h in
+      let b = good_term σ names good distinct u k in
+      record {
+        stands = (t, u, refl, a.is, b.is);
+        uses = (a.uses, b.uses);
+        words = (a.words, b.words);
+        known = All-append (Known names) _ _ a.known b.known;
+        levelled = tt;
+      }
 
-  all_good : (x : ℕ) → x < length names → (w : WrittenFormula) (f : Form) → IsGoodAt 5 σ names w f → IsGood σ names (for_all (text_at names x) w) (form.forall x f)
-  all_good x below (forall xs w) f h = record {
-    stands = (
-      h.good.stands.0,
-      ap (λ i. form.forall i f) (sym (numbered names x good.distinct below)) ∙ ap (λ b. form.forall (number_in names (text_at names x)) b) h.good.stands.1,
-      h.good.stands.2,
-    );
-    uses = h.good.uses;
-    words = ((variable_word σ names good distinct x below, h.good.words.0), h.good.words.1);
-    known = All-cons (Known names) (text_at names x) (xs ++ variables_in w) (is_known names x below) h.good.known;
-    levelled = (omega arith, h.good.levelled.1, h.good.levelled.2);
-  }
-  all_good x below w f h = record {
-    stands = (f, ap (λ i. form.forall i f) (sym (numbered names x good.distinct below)), h.good.stands);
-    uses = h.good.uses;
-    words = ((variable_word σ names good distinct x below, tt), h.good.words);
-    known = All-cons (Known names) (text_at names x) (variables_in w) (is_known names x below) h.good.known;
-    levelled = (omega arith, h.enough, h.good.levelled);
-  }
+  module _ (x : ℕ) (below : x < length names) (f : Form) where
+    one : (q : Quantifier) (w : WrittenFormula) → IsGoodAt 5 σ names w f → IsGood σ names (quantified q (text_at names x) [] w) (quantifier_form q x f)
+    one q w h = record {
+      stands = (f, ap (λ i. quantifier_form q i f) (sym (numbered names x good.distinct below)), h.good.stands);
+      uses = h.good.uses;
+      words = ((variable_word σ names good distinct x below, tt), h.good.words);
+      known = All-cons (Known names) (text_at names x) (variables_in w) (is_known names x below) h.good.known;
+      levelled = (h.enough, h.good.levelled);
+    }
 
-  operand : (asked : ℕ) → asked ≤ 5 → (f : Form) → IsGood σ names (written σ names f) f → IsGoodAt asked σ names (placed asked (level f) (written σ names f)) f
-  operand asked low f h = placed_good asked low σ names (written σ names f) f (level_kept σ names f) h
+    more : (q : Quantifier) (y : Text) (ys : List Text) (w : WrittenFormula) → IsGoodAt 5 σ names (quantified q y ys w) f
+        → IsGood σ names (quantified q (text_at names x) (y ∷ ys) w) (quantifier_form q x f)
+    more q y ys w h = record {
+      stands = (
+        h.good.stands.0,
+        ap (λ i. quantifier_form q i f) (sym (numbered names x good.distinct below)) ∙ ap (λ b. quantifier_form q (number_in names (text_at names x)) b) h.good.stands.1,
+        h.good.stands.2,
+      );
+      uses = h.good.uses;
+      words = ((variable_word σ names good distinct x below, h.good.words.0), h.good.words.1);
+      known = All-cons (Known names) (text_at names x) (y ∷ ys ++ variables_in w) (is_known names x below) h.good.known;
+      levelled = h.good.levelled;
+    }
+
+    quantify_good : (q : Quantifier) (w : WrittenFormula) → IsGoodAt 5 σ names w f → IsGood σ names (quantify q (text_at names x) w) (quantifier_form q x f)
+    quantify_good exists (quantified exists y ys w) h = more exists y ys w h
+    quantify_good forall (quantified forall y ys w) h = more forall y ys w h
+    quantify_good exists w h = one exists w h
+    quantify_good forall w h = one forall w h
 
   pub written_good : (f : Form) → FormFits σ (length names) f → IsGood σ names (written σ names f) f
   written_good form.always h = record { stands = refl; uses = tt; words = tt; known = All-nil (Known names); levelled = tt }
   written_good form.never h = record { stands = refl; uses = tt; words = tt; known = All-nil (Known names); levelled = tt }
-  written_good (form.equal t u) h =
-      let a = good_term σ names good distinct t h.0 in
-      let b = good_term σ names good distinct u h.1 in
-      record {
-        stands = (t, u, refl, a.is, b.is);
-        uses = (a.uses, b.uses);
-        words = (a.words, b.words);
-        known = All-append (Known names) _ _ a.known b.known;
-        levelled = tt;
-      }
-  written_good (form.differ t u) h =
-      let a = good_term σ names good distinct t h.0 in
-      let b = good_term σ names good distinct u h.1 in
-      record {
-        stands = (t, u, refl, a.is, b.is);
-        uses = (a.uses, b.uses);
-        words = (a.words, b.words);
-        known = All-append (Known names) _ _ a.known b.known;
-        levelled = tt;
-      }
+  written_good (form.equal t u) h = compared_good equals t u h.0 h.1
+  written_good (form.differ t u) h = compared_good differs t u h.0 h.1
   written_good (form.finite t) h =
       let a = good_term σ names good distinct t h in
       record { stands = (t, refl, a.is); uses = a.uses; words = a.words; known = a.known; levelled = tt }
@@ -300,47 +264,11 @@ module _ (σ : Signature) (names : List Text) (good : AreNames σ names) (distin
         levelled = tt;
       }
   written_good (form.no f) h =
-      let a = operand 5 (omega arith) f (written_good f h) in
+      let a = operand 5 (omega arith) _ (written_good f h) in
       record { stands = (f, refl, a.good.stands); uses = a.good.uses; words = a.good.words; known = a.good.known; levelled = (a.enough, a.good.levelled) }
-  written_good (form.and f g) h =
-      let a = operand 4 (omega arith) f (written_good f h.0) in
-      let b = operand 5 (omega arith) g (written_good g h.1) in
-      record {
-        stands = (f, g, refl, a.good.stands, b.good.stands);
-        uses = (a.good.uses, b.good.uses);
-        words = (a.good.words, b.good.words);
-        known = All-append (Known names) _ _ a.good.known b.good.known;
-        levelled = (a.enough, b.enough, a.good.levelled, b.good.levelled);
-      }
-  written_good (form.or f g) h =
-      let a = operand 3 (omega arith) f (written_good f h.0) in
-      let b = operand 4 (omega arith) g (written_good g h.1) in
-      record {
-        stands = (f, g, refl, a.good.stands, b.good.stands);
-        uses = (a.good.uses, b.good.uses);
-        words = (a.good.words, b.good.words);
-        known = All-append (Known names) _ _ a.good.known b.good.known;
-        levelled = (a.enough, b.enough, a.good.levelled, b.good.levelled);
-      }
-  written_good (form.imp f g) h =
-      let a = operand 3 (omega arith) f (written_good f h.0) in
-      let b = operand 2 (omega arith) g (written_good g h.1) in
-      record {
-        stands = (f, g, refl, a.good.stands, b.good.stands);
-        uses = (a.good.uses, b.good.uses);
-        words = (a.good.words, b.good.words);
-        known = All-append (Known names) _ _ a.good.known b.good.known;
-        levelled = (a.enough, b.enough, a.good.levelled, b.good.levelled);
-      }
-  written_good (form.iff f g) h =
-      let a = operand 2 (omega arith) f (written_good f h.0) in
-      let b = operand 2 (omega arith) g (written_good g h.1) in
-      record {
-        stands = (f, g, refl, a.good.stands, b.good.stands);
-        uses = (a.good.uses, b.good.uses);
-        words = (a.good.words, b.good.words);
-        known = All-append (Known names) _ _ a.good.known b.good.known;
-        levelled = (a.enough, b.enough, a.good.levelled, b.good.levelled);
-      }
-  written_good (form.exists x f) h = some_good x h.0 (placed 5 (level f) (written σ names f)) f (operand 5 (omega arith) f (written_good f h.1))
-  written_good (form.forall x f) h = all_good x h.0 (placed 5 (level f) (written σ names f)) f (operand 5 (omega arith) f (written_good f h.1))
+  written_good (form.and f g) h = joined_good σ names and _ _ f g (written_good f h.0) (written_good g h.1)
+  written_good (form.or f g) h = joined_good σ names or _ _ f g (written_good f h.0) (written_good g h.1)
+  written_good (form.imp f g) h = joined_good σ names imp _ _ f g (written_good f h.0) (written_good g h.1)
+  written_good (form.iff f g) h = joined_good σ names iff _ _ f g (written_good f h.0) (written_good g h.1)
+  written_good (form.exists x f) h = quantify_good x h.0 f exists _ (operand 5 (omega arith) _ (written_good f h.1))
+  written_good (form.forall x f) h = quantify_good x h.0 f forall _ (operand 5 (omega arith) _ (written_good f h.1))

@@ -1,11 +1,11 @@
 -- How a term and a formula are written, one layer at a time.
 use Rattle.std.proofs.lemmas.Bool.Decides.{nat_tests}
-use Rattle.std.proofs.Common.{◌≡◌, ℕ, zero, suc, ◌+◌, ◌<◌, ◌==◌, false, List, [], ◌∷◌, ◌++◌, take, length, refl, ap, ◌∙◌, subst, arith, Option, Some, None, append_assoc}
+use Rattle.std.proofs.Common.{◌≡◌, ℕ, zero, suc, ◌+◌, ◌<◌, ◌==◌, false, List, [], ◌∷◌, ◌++◌, take, length, refl, sym, ap, ◌∙◌, subst, arith, Option, Some, None, append_assoc}
 use Rattle.std.specs.Prelude.{All, slice_get, slice_index_or, option_and_then, IfSome, codes}
 use Rattle.std.specs.Option.{option_map}
 use Rattle.std.proofs.lemmas.List.{append-nil, length-take-le}
 use Rattle.formula_ast.proofs.Lists.{take_more_got}
-use Rattle.formula_printer.specs.Steps.{opening}
+use Rattle.formula_printer.specs.Steps.{before}
 use Rattle.std.proofs.lemmas.Option.{slice_get-get_or}
 use Rattle.tree_model.specs.declared.kind.Kind.{Kind}
 use Rattle.tree_model.specs.declared.kind.Kind.TheVariants as kind
@@ -18,10 +18,10 @@ use Rattle.formula_ast.specs.declared.term.Term.TheBlock.{hidden-the_row-Term-0 
 use Rattle.formula_ast.specs.declared.term.Term.TheViews.{out-Term}
 use Rattle.formula_ast.specs.declared.term.Terms.{Terms}
 use Rattle.formula_ast.specs.Terms.{list_of, subterm, argument}
-use Rattle.formula_grammar.specs.Written.{Text, variable, WrittenTerms, no_terms, one_more}
+use Rattle.formula_grammar.specs.Written.{Text, variable, headed, WrittenTerms, no_terms, one_more}
 use Rattle.formula_printer.specs.Printable.{HasWord, LayerFits, TermFits}
 use Rattle.formula_printer.specs.Texts.{term_text, arguments_text, more_text}
-use Rattle.formula_printer.specs.Writing.{text_at, symbol_text, applied, written_term, written_row, written_terms}
+use Rattle.formula_printer.specs.Writing.{text_at, symbol_head, written_term, written_row, written_terms}
 
 module _ (σ : Signature) (names : List Text) where
   pub written-var : (x : ℕ) → written_term σ names (term.Var x) ≡ variable (text_at names x)
@@ -33,13 +33,9 @@ module _ (σ : Signature) (names : List Text) where
   written_hidden [] = refl
   written_hidden (t ∷ ts) = ap (λ l. one_more (written_term σ names t) l) (written_hidden ts)
 
-  pub written-app : (s : Symbol) (ts : Terms) → written_term σ names (term.App s ts) ≡ applied σ s (written_terms σ names (list_of ts))
+  pub written-app : (s : Symbol) (ts : Terms) → written_term σ names (term.App s ts) ≡ headed (symbol_head σ s) (written_terms σ names (list_of ts))
   unfolding written_term
-  written-app s ts = ap (λ l. applied σ s l) (written_hidden (list_of ts))
-
-pub applied_text : (σ : Signature) (s : Symbol) (ts : WrittenTerms) → term_text (applied σ s ts) ≡ symbol_text σ s ++ arguments_text ts
-applied_text σ (Named place) ts = refl
-applied_text σ (Further index) ts = refl
+  written-app s ts = ap (λ l. headed (symbol_head σ s) l) (written_hidden (list_of ts))
 
 pub within : {A : Type 0} (xs : List A) (i : ℕ) (x : A) → slice_get xs i ≡ Some x → i < length xs
 within [] i x got = absurd (cc got)
@@ -76,6 +72,25 @@ module _ (σ : Signature) (n : ℕ) where
           ap (λ z. option_and_then {T = Term} {U = Term} (λ u. subterm u path) (argument z i)) (term.outs-App s ts)
           ∙ ap (λ o. option_and_then {T = Term} {U = Term} (λ u. subterm u path) o) (slice_get-get_or (list_of ts) i d w)
 
+module _ (σ : Signature) (n : ℕ) where
+  pub variable_fits_in : (v : ℕ) → v < n → TermFits σ n (term.Var v)
+  variable_fits_in v h [] = subst (LayerFits σ n) (sym (term.outs-Var v)) h
+  variable_fits_in v h (i ∷ path) =
+      subst (λ o. IfSome o (λ u. LayerFits σ n (out-Term u))) (sym (ap (λ z. option_and_then {T = Term} {U = Term} (λ u. subterm u path) (argument z i)) (term.outs-Var v))) tt
+
+  each_fits : (ts : List Term) → All (TermFits σ n) ts → (i : ℕ) (path : List ℕ)
+      → IfSome (option_and_then {T = Term} {U = Term} (λ u. subterm u path) (slice_get ts i)) (λ u. LayerFits σ n (out-Term u))
+  each_fits [] h i path = tt
+  each_fits (t ∷ ts) h zero path = h 0 t (omega arith) path
+  each_fits (t ∷ ts) h (suc i) path = each_fits ts (λ j d w. h (suc j) d (omega arith)) i path
+
+  pub application_fits_in : (s : Symbol) (ts : Terms) → IsRoot σ s (length (list_of ts)) → All (TermFits σ n) (list_of ts) → TermFits σ n (term.App s ts)
+  application_fits_in s ts root all [] = subst (LayerFits σ n) (sym (term.outs-App s ts)) root
+  application_fits_in s ts root all (i ∷ path) =
+      subst (λ o. IfSome o (λ u. LayerFits σ n (out-Term u)))
+      (sym (ap (λ z. option_and_then {T = Term} {U = Term} (λ u. subterm u path) (argument z i)) (term.outs-App s ts)))
+      (each_fits (list_of ts) all i path)
+
 -- ---- arguments, one after another
 
 abbrev pub opened : WrittenTerms → Text
@@ -84,6 +99,9 @@ opened (one_more t ts) = codes "(" ++ term_text t ++ more_text ts
 
 regroup : (a b c d e : Text) → (a ++ b) ++ ((c ++ d) ++ e) ≡ (((a ++ b) ++ c) ++ d) ++ e
 regroup a b c d e = simp append_assoc
+
+abbrev opening : ℕ → Text
+opening i = before (codes "(") (codes ", ") i
 
 opening_later : (n : ℕ) → opening (suc n) ≡ codes ", "
 opening_later n = let e : (suc n == 0) ≡ false = grind (arith, nat_tests) in rw e refl

@@ -8,10 +8,9 @@ pub mod Fronts
 pub mod Good
 pub mod Layers
 pub mod Levels
-pub mod Lists
+pub mod NewNames
 pub mod Over
 pub mod Pieces
 pub mod Places
 pub mod Printed
-pub mod Reading
 pub mod Rising

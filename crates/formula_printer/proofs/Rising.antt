@@ -1,12 +1,12 @@
--- The names of nodes: they rise, none is a name of a variable, and there are enough.
+-- The names of bound variables: they rise, none is another name, and there are enough.
 use Rattle.std.proofs.Common.{◌≡◌, ℕ, zero, suc, ◌+◌, ◌<◌, ◌≤◌, Bool, true, false, not, ◌||◌, ◌&&◌, cond, List, [], ◌∷◌, ◌++◌, take, drop, length, Some, refl, sym, ap, ◌∙◌, subst, arith, add-one, length-take}
 use Rattle.std.specs.Prelude.{All, map, filter, slice_get}
 use Rattle.std.specs.List.{range_with_len, list_all}
 use Rattle.std.specs.Str.{bytes_eq}
 use Rattle.std.specs.Char.{is_ascii_digit}
 use Rattle.std.proofs.lemmas.Bool.Decides.{nat_tests}
-use Rattle.std.proofs.lemmas.List.{take_all, take-append-le, length-take-le}
-use Rattle.std.proofs.lemmas.List.Elements.{All-cons}
+use Rattle.std.proofs.lemmas.List.{append-nil, length-append, take_all, take-append-le, length-take-le}
+use Rattle.std.proofs.lemmas.List.Elements.{All-append, All-cons, All-nil}
 use Rattle.std.proofs.lemmas.List.FromFn.{filter_of_map_range_with_len_more}
 use Rattle.formula_ast.specs.declared.token.TokenKind.TheVariants as k
 use Rattle.formula_ast.specs.Tokens.{is_word_byte, is_number, kind_of}
@@ -16,9 +16,9 @@ use Rattle.formula_tokens.proofs.Texts.{variable}
 use Rattle.formula_grammar.specs.Checks.{is_among, value_of}
 use Rattle.formula_grammar.specs.Written.{Text}
 use Rattle.formula_printer.specs.Numerals.{numeral}
-use Rattle.formula_printer.specs.Assignments.{counted, fresh_names, node_names}
+use Rattle.formula_printer.specs.Bound.{counted, fresh_names, bound_names}
 use Rattle.formula_printer.proofs.Decimals.{numeral_value, numeral_number}
-use Rattle.formula_printer.proofs.Places.{some_is, equal_texts, same_text}
+use Rattle.formula_printer.proofs.Places.{some_is, equal_texts, known_at}
 
 -- ---- one more name
 
@@ -30,22 +30,14 @@ still_enough names n i h =
     enough n (fresh_names names i) (cond (not (is_among (counted i) names)) (counted i ∷ []) []) h
     ∙ ap (take n) (sym (filter_of_map_range_with_len_more (λ x. not (is_among x names)) counted 0 i i (omega arith)))
 
-append_none : {A : Type 0} (l : List A) → l ++ [] ≡ l
-append_none [] = refl
-append_none (x ∷ l) = ap (λ m. x ∷ m) (append_none l)
-
 pub left_out : (names : List Text) (n i : ℕ) → is_among (counted i) names ≡ true → take n (fresh_names names i) ≡ take n (fresh_names names (i + 1))
 left_out names n i h =
-    ap (take n) (sym (filter_of_map_range_with_len_more (λ x. not (is_among x names)) counted 0 i i (omega arith) ∙ rw h (append_none (fresh_names names i))))
-
-push_length : (l : List Text) (x : Text) → length (l ++ x ∷ []) ≡ suc (length l)
-push_length [] x = refl
-push_length (y ∷ l) x = ap suc (push_length l x)
+    ap (take n) (sym (filter_of_map_range_with_len_more (λ x. not (is_among x names)) counted 0 i i (omega arith) ∙ rw h (append-nil (fresh_names names i))))
 
 room : (n : ℕ) (l : List Text) (x : Text) → length (take n l) < n → take n l ++ x ∷ [] ≡ take n (l ++ x ∷ [])
 room n l x h =
     let short : length l < n = omega (arith, length-take n l) in
-    ap (λ m. m ++ x ∷ []) (take_all n l (omega arith)) ∙ sym (take_all n (l ++ x ∷ []) (omega (arith, push_length l x)))
+    ap (λ m. m ++ x ∷ []) (take_all n l (omega arith)) ∙ sym (take_all n (l ++ x ∷ []) (omega (arith, length-append l (x ∷ []))))
 
 pub taken_in : (names : List Text) (n i : ℕ) → length (take n (fresh_names names i)) < n → is_among (counted i) names ≡ false
     → take n (fresh_names names i) ++ counted i ∷ [] ≡ take n (fresh_names names (i + 1))
@@ -104,24 +96,17 @@ rise_taken zero a xs (next i above new rest) = none
 rise_taken (suc n) a xs none = none
 rise_taken (suc n) a xs (next {xs = ys} i above new rest) = next i above new (rise_taken n (suc i) ys rest)
 
-pub nodes_rise : (names : List Text) (n : ℕ) → AreRising names 0 (node_names names n)
-nodes_rise names n = rise_taken n 0 (fresh_names names (n + length names)) (rise names (n + length names) 0)
+pub bound_rise : (names : List Text) (n : ℕ) → AreRising names 0 (bound_names names n)
+bound_rise names n = rise_taken n 0 (fresh_names names (n + length names)) (rise names (n + length names) 0)
 
--- the names of nodes and those of variables are words
+-- they are words, and so are the others behind them
+pub rising_each : {names : List Text} {a : ℕ} {xs : List Text} → AreRising names a xs → All (λ x. kind_of x ≡ Some k.Variable) xs
+rising_each none = All-nil (λ x. kind_of x ≡ Some k.Variable)
+rising_each (next {xs = xs} i above new rest) = All-cons (λ x. kind_of x ≡ Some k.Variable) (counted i) xs (counted_word i) (rising_each rest)
+
 pub rising_words : {names : List Text} {a : ℕ} {xs : List Text} → AreRising names a xs → All (λ x. kind_of x ≡ Some k.Variable) names
     → All (λ x. kind_of x ≡ Some k.Variable) (xs ++ names)
-rising_words none words = words
-rising_words {names = names} (next {xs = xs} i above new rest) words =
-    All-cons (λ x. kind_of x ≡ Some k.Variable) (counted i) (xs ++ names) (counted_word i) (rising_words rest words)
-
-known_at : (names : List Text) (j : ℕ) (x : Text) → slice_get names j ≡ Some x → is_among x names ≡ true
-known_at [] j x got = absurd (cc got)
-known_at (y ∷ names) zero x got = rw (same_text y x (some_is got)) refl
-known_at (y ∷ names) (suc j) x got = rw (known_at names j x got) (or_true (bytes_eq y x))
-  where
-    or_true : (b : Bool) → (b || true) ≡ true
-    or_true true = refl
-    or_true false = refl
+rising_words {names = names} {xs = xs} rise words = All-append (λ x. kind_of x ≡ Some k.Variable) xs names (rising_each rise) words
 
 -- a name that is counted below does not stand there
 elsewhere : {names : List Text} {b : ℕ} {xs : List Text} (i j : ℕ) → AreRising names b xs → i < b → is_among (counted i) names ≡ false
@@ -200,9 +185,9 @@ enough_open : (names : List Text) (m a : ℕ) → m ≤ open_count names a m + l
 enough_open [] m a = omega (arith, none_lost m a)
 enough_open (y ∷ names) m a = omega (arith, lost names y m a, enough_open names m a)
 
--- there are n names of nodes
-pub node_count : (names : List Text) (n : ℕ) → length (node_names names n) ≡ n
-node_count names n =
+-- there are n of them
+pub bound_count : (names : List Text) (n : ℕ) → length (bound_names names n) ≡ n
+bound_count names n =
     let many = enough_open names (n + length names) 0 in
     length-take-le n (fresh_names names (n + length names)) (omega (arith, many))
 

@@ -1,4 +1,5 @@
 pub mod Assignments
+pub mod Bound
 pub mod Numerals
 pub mod Printable
 pub mod PrintableLaws

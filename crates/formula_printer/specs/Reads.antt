@@ -1,27 +1,17 @@
 -- What a printed text reads as.
-use Rattle.std.specs.Prelude.{◌≡◌, true, List, length, All}
+use Rattle.std.specs.Prelude.{◌≡◌, true, List, All}
 use Rattle.tree_model.specs.Signatures.{Signature}
 use Rattle.formula_ast.specs.Forms.{Form}
-use Rattle.formula_ast.specs.Tokens.{end, tokens_at, Word}
-use Rattle.formula_grammar.specs.Begins.{BeginsWith}
 use Rattle.formula_grammar.specs.Checks.{is_among}
-use Rattle.formula_grammar.specs.Grammar.{IsFormula}
-use Rattle.formula_grammar.specs.Lawful.{UsesNames}
 use Rattle.formula_grammar.specs.Meaning.{Stands, variables_in}
-use Rattle.formula_grammar.specs.Written.{Text, WrittenFormula}
+use Rattle.formula_grammar.specs.Reading.{ReadsAsNamed}
+use Rattle.formula_grammar.specs.Written.{Text}
 
--- the tokens of the text read as what is written
-pub record IsTextOf (bytes : Text) (f : WrittenFormula) : Type 0 where
-  pub words : List Word
-  pub tokens : BeginsWith bytes (tokens_at bytes 0) words (end (length bytes))
-  pub grammar : IsFormula words f
-
--- the text reads as the formula, where each variable is the one with its name
+-- The text reads as a formula whose variables are named by first occurrence. Each of these is one of the given names, and
+-- where each variable is the one with its name among those, the formula is this one.
 pub record ReadsBack (σ : Signature) (names : List Text) (bytes : Text) (f : Form) : Type 0 where
-  pub formula : WrittenFormula
-  pub read : IsTextOf bytes formula
-  -- the words name symbols and predicates as they are declared, and variables by these names alone
-  pub uses : UsesNames σ formula
-  pub known : All (λ x. is_among x names ≡ true) (variables_in formula)
-  -- and the formula that is read is this one
-  pub stands : Stands σ names formula f
+  pub names_read : List Text
+  pub form_read : Form
+  pub reads : ReadsAsNamed σ bytes names_read form_read
+  pub known : All (λ x. is_among x names ≡ true) (variables_in reads.formula)
+  pub stands : Stands σ names reads.formula f

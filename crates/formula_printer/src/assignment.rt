@@ -1,23 +1,23 @@
 //! The text of an assignment.
-ghost use Rattle.std.specs.Prelude.{◌≡◌, ◌++◌, ◌<◌, ◌≤◌, ◌+◌, length, take, map, codes, All, string_bytes, IfOk, OnOk};
+ghost use Rattle.std.specs.Prelude.{◌≡◌, ◌++◌, ◌<◌, ◌≤◌, length, take, map, get_or, codes, All, string_bytes, IfOk, OnOk};
+ghost use Rattle.std.specs.List.{join_by};
 ghost use Rattle.tree_model.specs.Signatures.{Fits};
 ghost use Rattle.formula_ast.specs.declared.term.Term.TheVariants as term;
-ghost use Rattle.formula_printer.specs.Assignments.{assignment_form, assignment_names, node_equation, node_equations, root_equations};
+ghost use Rattle.formula_ast.specs.Forms.{always};
+ghost use Rattle.formula_grammar.specs.Written.{headed};
+ghost use Rattle.formula_printer.specs.Assignments.{assignment_form, assignment_names, equations_of};
 ghost use Rattle.formula_printer.specs.Printable.{AreNames, NodeHasWords};
 ghost use Rattle.formula_printer.specs.Reads.{ReadsBack};
-ghost use Rattle.formula_printer.specs.Steps as steps;
-ghost use Rattle.formula_printer.specs.Steps.{all_text, later_text};
 ghost use Rattle.formula_printer.specs.Texts.{names_text, term_text, text_of};
-ghost use Rattle.formula_printer.specs.Writing.{applied, text_at, written, written_terms};
+ghost use Rattle.formula_printer.specs.Writing.{symbol_head, written, written_terms};
 
-use crate::formula::write_opening;
-use crate::names::all_names;
-use crate::words::{write_symbol, write_text, write_variable};
+use crate::bound::all_names;
+use crate::words::{write_before, write_symbol, write_text, write_variable};
 use formula_ast::Names;
 use lists::NoMemory;
 use signature::Signature;
 use std::alloc::Global;
-use tree_model::{Assignment, Node, Places};
+use tree_model::{Assignment, Node};
 
 // Writes the symbol of a node and the names of its children.
 fn write_application(
@@ -28,93 +28,58 @@ fn write_application(
 ) -> Result<(), NoMemory>
     requires { NodeHasWords sig.now (length names.now) node.now }
     ensures { OnOk result (string_bytes out.new ≡ string_bytes out.old
-        ++ term_text (applied sig.now node.now.symbol (written_terms sig.now names.now (map (λ child. term.Var child) node.now.children)))) }
+        ++ term_text (headed (symbol_head sig.now node.now.symbol) (written_terms sig.now names.now (map (λ child. term.Var child) node.now.children)))) }
 {
     write_symbol(sig, node.symbol, out)?;
     if node.children.len() == 0 {
         return Ok(());
     }
     for (i, &child) in node.children.as_slice().iter().enumerate() {
-        write_opening(i, out)?;
+        write_before("(", ", ", i, out)?;
         write_variable(names, child, out)?;
     }
     write_text(")", out)
 }
 
-// Writes what stands before an equation, given its place.
-fn write_joint(i: usize, out: &mut String) -> Result<(), NoMemory>
-    ensures { OnOk result (string_bytes out.new ≡ string_bytes out.old ++ steps.joint i) }
-{
-    if i == 0 {
-        Ok(())
-    } else {
-        write_text(" & ", out)
-    }
-}
-
-// Writes the equation of a node.
-fn write_node(
+// Writes the equation of a place: that of a node, or behind the nodes that of a variable.
+fn write_equation(
     sig: &Signature,
     names: &Names,
+    a: &Assignment,
     i: usize,
-    node: &Node,
     out: &mut String,
 ) -> Result<(), NoMemory>
-    requires place { i < length names.now }
-    requires node { NodeHasWords sig.now (length names.now) node.now }
-    ensures { OnOk result (string_bytes out.new ≡ string_bytes out.old ++ steps.joint i ++ text_of (written sig.now names.now (node_equation i node.now))) }
+    requires place { i < length (equations_of a.now) }
+    requires few { length (equations_of a.now) ≤ length names.now }
+    requires nodes { All (NodeHasWords sig.now (length names.now)) a.now.nodes }
+    requires roots { All (λ root. root < length names.now) a.now.roots }
+    ensures { OnOk result (string_bytes out.new ≡ string_bytes out.old ++ text_of (written sig.now names.now (get_or (equations_of a.now) i always))) }
 {
-    write_joint(i, out)?;
     write_variable(names, i, out)?;
     write_text(" = ", out)?;
-    write_application(sig, names, node, out)
-}
-
-// Writes the equations of nodes.
-fn write_nodes(
-    sig: &Signature,
-    names: &Names,
-    nodes: &[Node],
-    out: &mut String,
-) -> Result<(), NoMemory>
-    requires places { length nodes.now ≤ length names.now }
-    requires nodes { All (NodeHasWords sig.now (length names.now)) nodes.now }
-    ensures { OnOk result (string_bytes out.new ≡ string_bytes out.old ++ all_text sig.now names.now (node_equations 0 nodes.now)) }
-{
-    for (i, node) in nodes.iter().enumerate() {
-        write_node(sig, names, i, node, out)?;
+    let nodes = a.nodes();
+    if i < nodes.len() {
+        write_application(sig, names, &nodes[i], out)
+    } else {
+        write_variable(names, *a.roots().get(i - nodes.len()), out)
     }
-    Ok(())
 }
 
-// Writes the equation of a variable, given its number.
-fn write_root(names: &Names, x: usize, root: usize, out: &mut String) -> Result<(), NoMemory>
-    requires variable { x < length names.now }
-    requires root { root < length names.now }
-    ensures { OnOk result (string_bytes out.new ≡ string_bytes out.old ++ codes " & " ++ text_at names.now x ++ codes " = " ++ text_at names.now root) }
-{
-    write_text(" & ", out)?;
-    write_variable(names, x, out)?;
-    write_text(" = ", out)?;
-    write_variable(names, root, out)
-}
-
-// Writes the equations of variables, of which the first has the number n.
-fn write_roots(
+// Writes the equations of all places, with an `&` between each two.
+fn write_equations(
     sig: &Signature,
     names: &Names,
-    n: usize,
-    roots: &Places,
+    a: &Assignment,
     out: &mut String,
 ) -> Result<(), NoMemory>
-    requires places { n + length roots.now ≤ length names.now }
-    requires roots { All (λ root. root < length names.now) roots.now }
-    ensures { OnOk result (string_bytes out.new ≡ string_bytes out.old ++ later_text sig.now names.now (root_equations n roots.now)) }
+    requires all { length (equations_of a.now) ≡ length names.now }
+    requires nodes { All (NodeHasWords sig.now (length names.now)) a.now.nodes }
+    requires roots { All (λ root. root < length names.now) a.now.roots }
+    ensures { OnOk result (string_bytes out.new ≡ string_bytes out.old ++ join_by (λ f. text_of (written sig.now names.now f)) (codes " & ") (equations_of a.now)) }
 {
-    // that no number of a name is past the type's end is told by its length
-    let _ = names.len();
-    for (i, &root) in roots.as_slice().iter().enumerate() {
-        write_root(names, n + i, root, out)?;
+    for i in 0..names.len() {
+        write_before("", " & ", i, out)?;
+        write_equation(sig, names, a, i, out)?;
     }
     Ok(())
 }
@@ -155,8 +120,7 @@ pub fn print_assignment(
     write_text("exists", &mut text)?;
     write_names(&all, nodes.len(), &mut text)?;
     write_text(": (", &mut text)?;
-    write_nodes(sig, &all, nodes, &mut text)?;
-    write_roots(sig, &all, nodes.len(), a.roots(), &mut text)?;
+    write_equations(sig, &all, a, &mut text)?;
     write_text(")", &mut text)?;
     Ok(text)
 }

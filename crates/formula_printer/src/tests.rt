@@ -295,22 +295,23 @@ fn each_atom_is_written(rt: HostRuntime) -> Result<(), Fail> {
     Ok(())
 }
 
-// A formula and a truth, joined.
-fn nested(alloc: Global, f: Formula, to_the_left: bool) -> Result<Formula, Fail> {
+// A formula and a truth, joined by `&` or by `|`.
+fn nested(alloc: Global, f: Formula, by_and: bool, to_the_left: bool) -> Result<Formula, Fail> {
     let nested = boxed(alloc, f)?;
     let other = boxed(alloc, Formula::True)?;
-    Ok(if to_the_left {
-        Formula::And(nested, other)
-    } else {
-        Formula::And(other, nested)
+    Ok(match (by_and, to_the_left) {
+        (true, true) => Formula::And(nested, other),
+        (true, false) => Formula::And(other, nested),
+        (false, true) => Formula::Or(nested, other),
+        (false, false) => Formula::Or(other, nested),
     })
 }
 
 // The formula with a thousand marks, nested to the left or to the right.
-fn deep(alloc: Global, to_the_left: bool) -> Result<Formula, Fail> {
+fn deep(alloc: Global, by_and: bool, to_the_left: bool) -> Result<Formula, Fail> {
     let mut f = Formula::True;
     for _ in 0..1000 {
-        f = nested(alloc, f, to_the_left)?;
+        f = nested(alloc, f, by_and, to_the_left)?;
     }
     Ok(f)
 }
@@ -318,10 +319,12 @@ fn deep(alloc: Global, to_the_left: bool) -> Result<Formula, Fail> {
 #[test]
 fn a_deep_formula_is_written(rt: HostRuntime) -> Result<(), Fail> {
     let sig = Signature::new(rt.alloc());
-    let left = checked_print(rt.alloc(), &sig, &deep(rt.alloc(), true)?)?;
-    assert_eq!(rt; left.len(), 4 * 1001 + 3 * 1000);
-    let right = checked_print(rt.alloc(), &sig, &deep(rt.alloc(), false)?)?;
-    assert_eq!(rt; right.len(), 4 * 1001 + 3 * 1000 + 2 * 999);
+    for &by_and in &[true, false] {
+        let left = checked_print(rt.alloc(), &sig, &deep(rt.alloc(), by_and, true)?)?;
+        assert_eq!(rt; left.len(), 4 * 1001 + 3 * 1000);
+        let right = checked_print(rt.alloc(), &sig, &deep(rt.alloc(), by_and, false)?)?;
+        assert_eq!(rt; right.len(), 4 * 1001 + 3 * 1000 + 2 * 999);
+    }
     Ok(())
 }
 
@@ -369,9 +372,9 @@ fn name(alloc: Global, name: &str) -> Result<Names, Fail> {
     Ok(names)
 }
 
-fn a_loop(alloc: Global) -> Result<Vec<Node>, Fail> {
+fn a_loop(alloc: Global, index: u64) -> Result<Vec<Node>, Fail> {
     let mut nodes = Vec::new(alloc);
-    nodes.push(node(alloc, Symbol::Further(0), &[0])?)?;
+    nodes.push(node(alloc, Symbol::Further(index), &[0])?)?;
     Ok(nodes)
 }
 
@@ -386,8 +389,16 @@ fn shared_nodes(alloc: Global) -> Result<Vec<Node>, Fail> {
 #[test]
 fn an_assignment_is_written(rt: HostRuntime) -> Result<(), Fail> {
     let alloc = rt.alloc();
-    let text = assigned(alloc, &name(alloc, "X")?, a_loop(alloc)?, &[0])?;
-    assert_eq!(rt; text.as_str(), "exists V0: (V0 = $0(V0) & X = V0)");
+    for (index, wanted) in [
+        (0, "exists V0: (V0 = $0(V0) & X = V0)"),
+        (
+            u64::MAX,
+            "exists V0: (V0 = $18446744073709551615(V0) & X = V0)",
+        ),
+    ] {
+        let text = assigned(alloc, &name(alloc, "X")?, a_loop(alloc, index)?, &[0])?;
+        assert_eq!(rt; text.as_str(), wanted);
+    }
     Ok(())
 }
 
@@ -404,6 +415,19 @@ fn a_node_has_no_name_that_is_taken(rt: HostRuntime) -> Result<(), Fail> {
 }
 
 #[test]
+fn bound_variables_have_new_names(rt: HostRuntime) -> Result<(), Fail> {
+    let mut names = name(rt.alloc(), "V1")?;
+    add(rt.alloc(), &mut names, "V")?;
+    let found = bound_names(rt.alloc(), &names, 3)?;
+    assert_eq!(rt; found.len(), 3);
+    for (i, wanted) in ["V0", "V2", "V3"].iter().enumerate() {
+        assert_eq!(rt; found.get(i).as_str(), *wanted);
+    }
+    Ok(())
+}
+
+#[test]
 fn laws_can_be_called(_rt: HostRuntime) {
     well_formed_is_printable();
+    bound_names_are_printable();
 }

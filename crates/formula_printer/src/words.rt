@@ -2,7 +2,9 @@
 ghost use Rattle.std.specs.Prelude.{◌≡◌, ◌++◌, ◌<◌, length, string_bytes, OnOk};
 ghost use Rattle.formula_printer.specs.Numerals.{numeral};
 ghost use Rattle.formula_printer.specs.Printable.{HasWord};
-ghost use Rattle.formula_printer.specs.Writing.{names_of, symbol_text, text_at};
+ghost use Rattle.formula_printer.specs.Steps.{before};
+ghost use Rattle.formula_printer.specs.Texts.{head_text};
+ghost use Rattle.formula_printer.specs.Writing.{names_of, symbol_head, text_at};
 
 use formula_ast::Names;
 use itoa::Buffer;
@@ -16,6 +18,22 @@ pub(crate) fn write_text(text: &str, out: &mut String) -> Result<(), NoMemory>
 {
     out.push_str(text)?;
     Ok(())
+}
+
+// Writes what stands before an item, given its place.
+pub(crate) fn write_before(
+    first: &str,
+    later: &str,
+    i: usize,
+    out: &mut String,
+) -> Result<(), NoMemory>
+    ensures { OnOk result (string_bytes out.new ≡ string_bytes out.old ++ before first.now later.now i) }
+{
+    if i == 0 {
+        write_text(first, out)
+    } else {
+        write_text(later, out)
+    }
 }
 
 // Writes a number in decimal digits.
@@ -49,7 +67,7 @@ pub(crate) fn write_symbol(
     out: &mut String,
 ) -> Result<(), NoMemory>
     requires { HasWord sig.now symbol }
-    ensures { OnOk result (string_bytes out.new ≡ string_bytes out.old ++ symbol_text sig.now symbol) }
+    ensures { OnOk result (string_bytes out.new ≡ string_bytes out.old ++ head_text (symbol_head sig.now symbol)) }
 {
     match symbol {
         Symbol::Named(place) => write_name(sig, place, out),

@@ -1,8 +1,6 @@
 -- What a loop over texts, digits or declared names has gone through.
-use Rattle.std.proofs.Common.{◌≡◌, ℕ, suc, ◌+◌, ◌-◌, ◌*◌, ◌<◌, ◌≤◌, true, false, List, [], ◌∷◌, length, drop, get_or, Option, Some, None, refl, sym, ap, ◌∙◌, arith}
-use Rattle.std.specs.Borrow.{Bor}
+use Rattle.std.proofs.Common.{◌≡◌, ℕ, suc, ◌+◌, ◌-◌, ◌*◌, ◌<◌, ◌≤◌, true, false, List, [], ◌∷◌, length, drop, get_or, Option, Some, None, refl, ap, ◌∙◌, arith}
 use Rattle.std.specs.Prelude.{slice_get, option_map, if◌then◌else◌}
-use Rattle.std.specs.Str.{bytes_eq}
 use Rattle.std.proofs.lemmas.List.{drop_more, drop_all, at_drop_more}
 use Rattle.std.proofs.lemmas.Option.{slice_get_within, get_or_from_slice_get, none-some, same_Some}
 use denote.Enum.Bare.{sameb}
@@ -10,25 +8,7 @@ use Rattle.tree_model.specs.contracts.kind.Kind.{the_type}
 use Rattle.tree_model.specs.declared.kind.Kind.TheVariants as kind
 use Rattle.tree_model.specs.declared.kind.Kind.{Kind}
 use Rattle.tree_model.specs.Signatures.{Signature, Entry, declared_at}
-use Rattle.formula_grammar.specs.Written.{Text}
-use Rattle.formula_grammar.specs.Checks.{is_among, value_from, count_of, is_kind}
-use Rattle.formula_reader.specs.Input.{texts_of}
-
--- ---- whether a text is one of these
-
--- none of the texts before the i-th is this one
-abbrev pub NotAmong : Text → List (Bor (List ℕ)) → ℕ → Type 0
-NotAmong x texts i = is_among x (texts_of texts) ≡ is_among x (texts_of (drop i texts))
-
-module _ (x : Text) (texts : List (Bor (List ℕ))) (i : ℕ) where
-  pub among_here : (d : Bor (List ℕ)) → i < length texts → NotAmong x texts i → true ≡ bytes_eq (get_or texts i d).now x → true ≡ is_among x (texts_of texts)
-  among_here d within before is = sym (before ∙ ap (λ l. is_among x (texts_of l)) (drop_more texts i d within) ∙ rw (sym is))
-
-  pub among_later : (d : Bor (List ℕ)) → i < length texts → NotAmong x texts i → false ≡ bytes_eq (get_or texts i d).now x → NotAmong x texts (i + 1)
-  among_later d within before is = before ∙ ap (λ l. is_among x (texts_of l)) (drop_more texts i d within) ∙ rw (sym is)
-
-  pub among_none : length texts ≤ i → NotAmong x texts i → false ≡ is_among x (texts_of texts)
-  among_none past before = sym (before ∙ ap (λ l. is_among x (texts_of l)) (drop_all i texts past))
+use Rattle.formula_grammar.specs.Checks.{value_from, count_of, is_kind}
 
 -- ---- the value of digits
 

@@ -1,38 +1,13 @@
 -- Where a name stands in a list of names.
-use Rattle.std.proofs.Common.{◌≡◌, ℕ, zero, suc, ◌+◌, ◌<◌, ◌≤◌, Bool, true, false, cond, not, nat_lt, List, [], ◌∷◌, length, drop, get_or, ◌||◌, Some, None, refl, sym, ap, ◌∙◌, arith, lt-ltb, Contains}
-use Rattle.std.specs.Prelude.{position, slice_get, unwrap_or}
+use Rattle.std.proofs.Common.{◌≡◌, ℕ, zero, suc, ◌+◌, ◌<◌, ◌≤◌, Bool, true, false, cond, not, nat_lt, List, [], ◌∷◌, length, get_or, ◌||◌, Some, None, refl, sym, ◌∙◌, arith, lt-ltb, Contains}
+use Rattle.std.specs.Prelude.{position}
 use Rattle.std.specs.Str.{bytes_eq}
 use Rattle.std.specs.List.{list_any, position_or_len}
 use Rattle.std.specs.Option.{is_some}
 use Rattle.std.proofs.lemmas.Bool.Decides.{nat_tests}
-use Rattle.std.proofs.lemmas.List.{drop_more}
 use Rattle.std.proofs.lemmas.List.Quantifiers.{position-Some}
-use Rattle.std.proofs.lemmas.Option.{get_or_from_slice_get, slice_get_within, none-some}
+use Rattle.std.proofs.lemmas.Option.{none-some}
 use Rattle.std.proofs.lemmas.Slice.Eq.{bytes_eq-Decides}
-use Rattle.formula_grammar.specs.Meaning.{number_in}
-
--- what is left of a list behind an element
-drop_got : {A : Type 0} (xs : List A) (i : ℕ) (x : A) → slice_get xs i ≡ Some x → drop i xs ≡ x ∷ drop (i + 1) xs
-drop_got xs i x got =
-    drop_more xs i x (slice_get_within xs i x got) ∙ ap (λ y. y ∷ drop (i + 1) xs) (get_or_from_slice_get xs i x x got)
-
--- the first element that passes is not before the i-th
-abbrev pub NotBefore : {A : Type 0} → (A → Bool) → List A → ℕ → Type 0
-NotBefore p xs i = position_or_len p xs ≡ i + position_or_len p (drop i xs)
-
-module _ {A : Type 0} (p : A → Bool) (xs : List A) (i : ℕ) where
-  pub not_here : (x : A) → NotBefore p xs i → slice_get xs i ≡ Some x → p x ≡ false → NotBefore p xs (i + 1)
-  not_here x far got fails =
-      let left : position_or_len p (drop i xs) ≡ cond (not (p x)) (1 + position_or_len p (drop (i + 1) xs)) 0 = ap (position_or_len p) (drop_got xs i x got) in
-      let one : position_or_len p (drop i xs) ≡ 1 + position_or_len p (drop (i + 1) xs) = rw fails at left in
-      omega arith
-
-  pub here : (x : A) → NotBefore p xs i → slice_get xs i ≡ Some x → p x ≡ true → position p xs ≡ Some i
-  here x far got passes =
-      let left : position_or_len p (drop i xs) ≡ cond (not (p x)) (1 + position_or_len p (drop (i + 1) xs)) 0 = ap (position_or_len p) (drop_got xs i x got) in
-      let one : position_or_len p (drop i xs) ≡ 0 = rw passes at left in
-      let at : position_or_len p xs ≡ i = omega arith in
-      rw (at, lt-ltb i (length xs) (slice_get_within xs i x got))
 
 -- a name that is found is there
 pub found_is_there : (names : List (List ℕ)) (x : List ℕ) (i : ℕ) → position (λ name. bytes_eq name x) names ≡ Some i → Contains names x
@@ -72,7 +47,3 @@ found_tells false x = refl
 
 pub found_any : {A : Type 0} (p : A → Bool) (xs : List A) → is_some (position p xs) ≡ list_any p xs
 found_any p xs = found_tells _ (position_or_len p xs) ∙ sym (any_position p xs)
-
--- the number of a name that is found
-pub number_found : (names : List (List ℕ)) (x : List ℕ) (i : ℕ) → position (λ name. bytes_eq name x) names ≡ Some i → number_in names x ≡ i
-number_found names x i found = ap (λ o. unwrap_or o 0) found

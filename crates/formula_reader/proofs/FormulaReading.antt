@@ -1,282 +1,416 @@
--- What is read of formulas, put together.
-use Rattle.std.proofs.Common.{◌≡◌, ℕ, map, not, ◌&&◌, ◌||◌, List, [], ◌∷◌, ◌++◌, refl, sym, ap, ◌∙◌, subst, append_assoc}
-use Rattle.std.proofs.lemmas.List.{append-nil, map_push}
+-- Formulas are read by their operands and signs.
+use Rattle.std.proofs.Common.{◌≡◌, ℕ, suc, ◌+◌, ◌≤◌, ◌<◌, true, false, not, ◌||◌, List, [], ◌∷◌, ◌++◌, length, map, drop, take, Option, Some, None, refl, sym, ◌∙◌, ap, subst, append_assoc, add-one, length-append, arith}
+use Rattle.std.specs.Prelude.{Result, Ok, Err, OnOk, IfOk, IfErr, MatchResult, if◌then◌else◌}
+use Rattle.std.specs.Option.{option_map}
 use Rattle.tree_model.specs.Signatures.{Signature}
 use Rattle.formula_ast.specs.Forms as form
 use Rattle.formula_ast.specs.Forms.{Form, form_of}
-use Rattle.formula_grammar.specs.Written.{Text, WrittenFormula, no, group, and, or, imp, iff, all_of, some_of}
-use Rattle.formula_ast.specs.declared.token.TokenKind.TheVariants as k
+use Rattle.formula_ast.specs.Tokens.{Stream, end, bad, token, Word}
 use Rattle.formula_ast.specs.declared.token.TokenKind.{TokenKind}
-use Rattle.formula_grammar.specs.Grammar as g
-use Rattle.formula_grammar.specs.Grammar.{Part, Derives, word, variables}
-use Rattle.formula_grammar.specs.Machine.{Place, deeper}
-use Rattle.formula_grammar.specs.Lawful.{is_bound}
-use Rattle.formula_grammar.specs.Meaning.{first_occurrences, variables_in, number_in, behind, Stands}
-use Rattle.formula_reader.specs.declared.parsed.Joint.{Joint}
-use Rattle.formula_reader.specs.declared.parsed.Joint.TheVariants as joint
+use Rattle.formula_ast.specs.declared.token.TokenKind.TheVariants as k
 use Rattle.formula_ast.specs.declared.formula.Formula.{Formula}
-use Rattle.std.specs.Borrow.{Bor}
-use Rattle.formula_reader.specs.Input.{Input, words_left, texts_of}
-use Rattle.formula_reader.specs.Faults.{KeepsNames}
-use Rattle.formula_reader.specs.Joints.{joint_form}
-use Rattle.formula_reader.proofs.NamesRead.{first_append, still, loose_both}
-use Rattle.formula_reader.specs.Reads.{Reads, ReadsAs, ReadsQuantified, IsParsed}
+use Rattle.formula_grammar.specs.declared.fault.Fault.{Fault}
+use Rattle.formula_grammar.specs.declared.fault.FaultKind.{FaultKind}
+use Rattle.formula_grammar.specs.Written.{Text, Joint, and, or, imp, iff, Quantifier, WrittenFormula, no, group, joined, quantified}
+use Rattle.formula_grammar.specs.Words.{same, mark, word, sign, quantifier_kind, word_of, variables_words, formula_words}
+use Rattle.formula_grammar.specs.Grammar.{strength, left, right}
+use Rattle.formula_grammar.specs.Machine as m
+use Rattle.formula_grammar.specs.Machine.{Place, Stack, Symbol, Role, Turn, deeper, binding, tails, unary_row, variables_row, followed_by, turned, row}
+use Rattle.formula_grammar.specs.Checks.{Environment, check, check_all, update_all, sooner}
+use Rattle.formula_grammar.specs.FirstFault.{fault_from}
+use Rattle.formula_grammar.specs.Names.{is_bound}
+use Rattle.formula_grammar.specs.Meaning.{variables_in, first_occurrences, number_in, Stands, joint_form, quantifier_form, behind}
+use Rattle.formula_reader.specs.declared.error.ReadError.{ReadError}
+use Rattle.formula_reader.specs.declared.error.ReadError.TheVariants.{Refused, NoMemory}
+use Rattle.formula_reader.specs.declared.place.Place.{Place as PlaceRead}
+use Rattle.formula_reader.specs.Input.{Input, Scope, added, left_of, words_left, starts, text_ahead, environment, place_of}
+use Rattle.formula_reader.specs.Kinds.{chains, nests}
+use Rattle.formula_reader.specs.Faults.{fault_of, fault_with, move_with, Takes, TakesWord, Stops, RefusesAt, KeepsNames}
+use Rattle.formula_reader.specs.Reads.{IsRead, IsOperand, Bound, bound_words, bound_variables, bound_bound, IsQuantified, ReadsSign}
+use Rattle.formula_reader.proofs.Steps.{ahead, words_taken, only_itself, took, took_in, took_plain, stopped, stopped_in, plainly, nothing_more, skipped, blocked, Blocks, not_starting}
+use Rattle.formula_reader.proofs.Rooms.{room, less}
+use Rattle.formula_reader.proofs.NamesRead.{first_append}
+use Rattle.formula_reader.proofs.Reading.{kept_place, enclosed, both}
+use Rattle.formula_reader.proofs.TermReading.{at_inner}
+use Rattle.formula_reader.proofs.AtomReading.{ReadOperand}
 
--- ---- what was read
+abbrev pub ReadQuantified : Quantifier → Signature → Input → Input → Formula → Type 0
+ReadQuantified q σ old new f = IsRead bound_words bound_variables bound_bound (IsQuantified q) σ old new f
 
--- the formula was read since, whatever stands round it
-pub record Holds (σ : Signature) (xs : List Text) (old new : Input) (w : WrittenFormula) (p : Formula) : Type 0 where
-  pub names : new.names ≡ first_occurrences old.names (variables_in w)
-  pub loose : new.loose ≡ (old.loose || not (is_bound xs w))
-  pub is : (more : List Text) → IsParsed σ (new.names ++ more) w p
+-- ---- an operand is one of the next level, and what may be joined to it
 
-abbrev pub ReadsFormula : (WrittenFormula → Part) → Signature → List Text → Input → Input → Formula → Type 0
-ReadsFormula part σ xs old new p = ReadsAs part variables_in (is_bound xs) (λ names w q. IsParsed σ names w q) old new p
+stacks_same : (a b : Stack) (x : Symbol) (s t : Stack) → a ≡ b ++ x ∷ [] → (t ++ a) ++ s ≡ (t ++ b) ++ x ∷ s
+stacks_same a b x s t e =
+    append_assoc t a s ∙ ap (λ u. t ++ (u ++ s)) e ∙ ap (λ u. t ++ u) (append_assoc b (x ∷ []) s) ∙ sym (append_assoc t b (x ∷ s))
 
-abbrev pub written_joint : Joint → WrittenFormula → WrittenFormula → WrittenFormula
-written_joint joint.And v w = and v w
-written_joint joint.Or v w = or v w
-written_joint joint.Imp v w = imp v w
-written_joint joint.Iff v w = iff v w
+last_tail : (j : Joint) (c : Place) → tails (strength j) c ≡ tails (suc (strength j)) c ++ m.tail j c ∷ []
+last_tail and c = refl
+last_tail or c = refl
+last_tail imp c = refl
+last_tail iff c = refl
 
-joint_variables : (j : Joint) (v w : WrittenFormula) → variables_in (written_joint j v w) ≡ variables_in v ++ variables_in w
-joint_variables joint.And v w = refl
-joint_variables joint.Or v w = refl
-joint_variables joint.Imp v w = refl
-joint_variables joint.Iff v w = refl
+module _ (n : ℕ) (c : Place) (x : Symbol) (e : tails n c ≡ tails (suc n) c ++ x ∷ []) (s : Stack) where
+  level_moves : (wrong : Option FaultKind) (E : Environment) (at : ℕ) (later : Environment → Stack → Option Fault) (o : Option Turn)
+      → move_with wrong E at later (turned (option_map (λ turn. followed_by (tails n c) turn) o) s m.refused)
+      ≡ move_with wrong E at later (turned (option_map (λ turn. followed_by (tails (suc n) c) turn) o) (x ∷ s) m.refused)
+  level_moves wrong E at later None = refl
+  level_moves wrong E at later (Some turn) =
+      ap (λ u. move_with wrong E at later (m.goes turn.0 u)) (stacks_same (tails n c) (tails (suc n) c) x s turn.1 e)
 
-joint_bound : (xs : List Text) (j : Joint) (v w : WrittenFormula) → is_bound xs (written_joint j v w) ≡ (is_bound xs v && is_bound xs w)
-joint_bound xs joint.And v w = refl
-joint_bound xs joint.Or v w = refl
-joint_bound xs joint.Imp v w = refl
-joint_bound xs joint.Iff v w = refl
+  level_from : (wrong : Option FaultKind) (bytes : List ℕ) (i : Stream) (E : Environment)
+      → fault_with wrong bytes i E (m.operand n c ∷ s) ≡ fault_with wrong bytes i E (m.operand (suc n) c ∷ x ∷ s)
+  level_from wrong bytes (end at) E = refl
+  level_from wrong bytes (bad at) E = refl
+  level_from wrong bytes (token t more) E =
+      level_moves wrong E t.from (λ F u. fault_from bytes more F u) (unary_row c (word_of bytes t).kind (word_of bytes t).text)
 
-joint_is : (σ : Signature) (names : List Text) (j : Joint) (v w : WrittenFormula) (p q r : Formula)
-    → form_of r ≡ joint_form j (form_of p) (form_of q)
-    → IsParsed σ names v p → IsParsed σ names w q → IsParsed σ names (written_joint j v w) r
-joint_is σ names joint.And v w p q r f a b = (form_of p, form_of q, f, a, b)
-joint_is σ names joint.Or v w p q r f a b = (form_of p, form_of q, f, a, b)
-joint_is σ names joint.Imp v w p q r f a b = (form_of p, form_of q, f, a, b)
-joint_is σ names joint.Iff v w p q r f a b = (form_of p, form_of q, f, a, b)
+pub operand_level : (σ : Signature) (i : Input) (j : Joint) (n : ℕ) (c : Place) → strength j ≡ n → (s : Stack)
+    → fault_of σ i (m.operand n c ∷ s) ≡ fault_of σ i (m.operand (n + 1) c ∷ m.tail j c ∷ s)
+operand_level σ i j n c is s =
+    subst (λ l. fault_of σ i (m.operand l c ∷ s) ≡ fault_of σ i (m.operand (suc l) c ∷ m.tail j c ∷ s)) {x = strength j} {y = n} is
+    (level_from (strength j) c (m.tail j c) (last_tail j c) s i.pending i.bytes (left_of i) (environment σ i.joints))
+    ∙ ap (λ l. fault_of σ i (m.operand l c ∷ m.tail j c ∷ s)) (sym (add-one n))
 
-module _ {σ : Signature} {xs : List Text} where
-  pub read_holds : {part : WrittenFormula → Part} {old new : Input} {p : Formula} (r : ReadsFormula part σ xs old new p) → Holds σ xs old new r.written p
-  read_holds r = record { names = r.names; loose = r.loose; is = r.is }
+-- nothing more is joined
+pub tail_passes : (σ : Signature) (i : Input) (j : Joint) (c : Place) → starts (sign j) (left_of i) ≡ false → (s : Stack) → fault_of σ i (m.tail j c ∷ s) ≡ fault_of σ i s
+tail_passes σ i j c fails s = skipped σ i (m.tail j c) refl (blocked (sign j) i (m.tail j c) fails (λ t other. only_none t.kind (sign j) _ other)) s
+  where
+    only_none : (kind asked : TokenKind) (turn : Turn) → same kind asked ≡ false → m.only kind asked turn ≡ None
+    only_none kind asked turn other = ap (λ b. if b then Some turn else None) other
 
-  pub holds_read : {part : WrittenFormula → Part} {old new : Input} {w : WrittenFormula} {p : Formula}
-      → Holds σ xs old new w p → Reads (part w) old new → ReadsFormula part σ xs old new p
-  holds_read {w = w} h d = record { written = w; reads = d; names = h.names; loose = h.loose; is = h.is }
+-- ---- levels
 
-  pub holds_behind : {old mid new : Input} {w : WrittenFormula} {p : Formula} → KeepsNames old mid → Holds σ xs mid new w p → Holds σ xs old new w p
-  holds_behind {w = w} k h = record {
-    names = h.names ∙ ap (λ l. first_occurrences l (variables_in w)) k.names;
-    loose = h.loose ∙ ap (λ b. b || not (is_bound xs w)) k.loose;
-    is = h.is;
+pub level_bounds : (j : Joint) → (1 ≤ strength j) × (strength j ≤ 4) × (1 ≤ right j) × (right j ≤ 5) × (left j ≤ suc (strength j)) × (strength j ≤ left j)
+level_bounds and = (omega arith, omega arith, omega arith, omega arith, omega arith, omega arith)
+level_bounds or = (omega arith, omega arith, omega arith, omega arith, omega arith, omega arith)
+level_bounds imp = (omega arith, omega arith, omega arith, omega arith, omega arith, omega arith)
+level_bounds iff = (omega arith, omega arith, omega arith, omega arith, omega arith, omega arith)
+
+pub chain_left : (j : Joint) → chains j ≡ true → left j ≡ strength j
+chain_left and h = refl
+chain_left or h = refl
+chain_left imp h = absurd (cc h)
+chain_left iff h = absurd (cc h)
+
+pub weaker : {m n : ℕ} {σ : Signature} {old new : Input} {f : Formula} → m ≤ n → ReadOperand n σ old new f → ReadOperand m σ old new f
+weaker {m} {n} le r = record {
+  written = r.written;
+  text = r.text;
+  scope = r.scope;
+  loose = r.loose;
+  is = λ more. record { strong = omega (arith, le, (r.is more).strong); levelled = (r.is more).levelled; stands = (r.is more).stands };
+  bytes = r.bytes;
+  on = r.on;
+}
+
+-- ---- joints
+
+joint_stands : (σ : Signature) (names : List Text) (j : Joint) (v w : WrittenFormula) (f g h : Form) → h ≡ joint_form j f g → Stands σ names v f → Stands σ names w g
+    → Stands σ names (joined j v w) h
+joint_stands σ names j v w f g h is a b = (f, g, is, a, b)
+
+abbrev signed_words : Joint → WrittenFormula → List Word → List Word
+signed_words j w ws = mark (sign j) ∷ formula_words w ws
+
+pub joined_read : (j : Joint) {σ : Signature} {old mid one new : Input} {f g h : Formula} → ReadOperand (left j) σ old mid f → words_left mid ≡ mark (sign j) ∷ words_left one
+    → KeepsNames mid one → one.bytes ≡ mid.bytes → mid.at ≤ one.at → ReadOperand (right j) σ one new g → form_of h ≡ joint_form j (form_of f) (form_of g)
+    → ReadOperand (strength j) σ old new h
+joined_read j {σ} {old} {mid} {one} {new} {f} {g} {h} a text keeps bytes on b is =
+    let signed : IsRead (signed_words j) variables_in is_bound (IsOperand (right j)) σ mid new g =
+    enclosed (signed_words j) variables_in is_bound (IsOperand (right j)) (λ w. w) (λ w. refl) (λ xs w. refl) keeps b (record { scope = refl; loose = refl }) (λ names two. two)
+    (text ∙ ap (λ ws. mark (sign j) ∷ ws) b.text) bytes refl on (omega arith) in
+    both formula_words variables_in is_bound (IsOperand (strength j)) (λ v w. joined j v w) (λ v w. refl) (λ xs v w. refl) a signed
+    (λ names one two. record {
+      strong = omega arith;
+      levelled = (one.strong, two.strong, one.levelled, two.levelled);
+      stands = joint_stands σ names j a.written b.written (form_of f) (form_of g) (form_of h) is one.stands two.stands;
+    })
+    (a.text ∙ ap (λ ws. formula_words a.written ws) signed.text)
+
+pub again_more : (j : Joint) (c : Place) → chains j ≡ true → m.again j c ≡ m.tail j c ∷ []
+again_more and c h = refl
+again_more or c h = refl
+again_more imp c h = absurd (cc h)
+again_more iff c h = absurd (cc h)
+
+pub again_none : (j : Joint) (c : Place) → chains j ≡ false → m.again j c ≡ []
+again_none and c h = absurd (cc h)
+again_none or c h = absurd (cc h)
+again_none imp c h = refl
+again_none iff c h = refl
+
+-- ---- signs
+
+sign_mark : (j : Joint) (text : Text) → word (sign j) text ≡ mark (sign j)
+sign_mark and text = refl
+sign_mark or text = refl
+sign_mark imp text = refl
+sign_mark iff text = refl
+
+module _ (j : Joint) (p : PlaceRead) (σ : Signature) (old : Input) (next : starts (sign j) (left_of old) ≡ true) (rs : List Role) (c : Place)
+    (roles_are : m.sign_roles j (place_of old p) ≡ rs) (place_is : m.right_place j (place_of old p) ≡ c) where
+  sign_row : row (m.tail j (place_of old p)) (ahead (sign j) old) ≡ Some (rs, m.operand (right j) c ∷ m.again j (place_of old p))
+  sign_row =
+      only_itself (sign j) ∙ ap (λ us. Some (us, m.operand (right j) (m.right_place j (place_of old p)) ∷ m.again j (place_of old p))) roles_are
+      ∙ ap (λ d. Some (rs, m.operand (right j) d ∷ m.again j (place_of old p))) place_is
+
+  sign_read : {new : Input} {inner : PlaceRead} {wrong : Option FaultKind} → Takes wrong old new → check_all (environment σ old.joints) old.pending rs ≡ None
+      → update_all (environment σ old.joints) rs ≡ environment σ new.joints → KeepsNames old new → place_of new inner ≡ c → inner.depth ≤ 200 → ReadsSign j p σ old new inner
+  sign_read {new} takes right_is becomes keeps inner_is depth = record {
+    faults = λ s. took (sign j) next takes σ σ (m.tail j (place_of old p)) (rs, m.operand (right j) c ∷ m.again j (place_of old p)) sign_row right_is becomes s
+        ∙ ap (λ d. fault_of σ new (m.operand (right j) d ∷ m.again j (place_of old p) ++ s)) (sym inner_is);
+    text = words_taken (sign j) next takes ∙ ap (λ w. w ∷ words_left new) (sign_mark j (text_ahead old));
+    keeps = keeps;
+    bytes = takes.bytes;
+    on = takes.on;
+    depth = depth;
   }
 
-  pub holds_before : {old mid new : Input} {w : WrittenFormula} {p : Formula} → Holds σ xs old mid w p → KeepsNames mid new → Holds σ xs old new w p
-  holds_before {w = w} {p = p} h k = record {
-    names = k.names ∙ h.names;
-    loose = k.loose ∙ h.loose;
-    is = λ more. subst (λ l. IsParsed σ (l ++ more) w p) (sym k.names) (h.is more);
-  }
+  sign_stopped : (e : ReadError) (wrong : Option FaultKind) → Stops wrong old e → check_all (environment σ old.joints) old.pending rs ≡ sooner old.pending wrong
+      → RefusesAt (m.tail j (place_of old p)) σ old e
+  sign_stopped e wrong stops checked =
+      stopped (sign j) old next σ (sooner old.pending wrong) e stops (m.tail j (place_of old p)) (rs, m.operand (right j) c ∷ m.again j (place_of old p)) sign_row checked
 
-  pub joins : (j : Joint) {old mid new : Input} {v w : WrittenFormula} {p q r : Formula} → Holds σ xs old mid v p → Holds σ xs mid new w q
-      → form_of r ≡ joint_form j (form_of p) (form_of q)
-      → Holds σ xs old new (written_joint j v w) r
-  joins j {old} {mid} {new} {v} {w} {p} {q} {r} a b f = record {
-    names = b.names ∙ ap (λ l. first_occurrences l (variables_in w)) a.names ∙ sym (first_append old.names (variables_in v) (variables_in w))
-        ∙ ap (first_occurrences old.names) (sym (joint_variables j v w));
-    loose = b.loose ∙ ap (λ l. l || not (is_bound xs w)) a.loose ∙ loose_both old.loose (is_bound xs v) (is_bound xs w)
-        ∙ ap (λ x. old.loose || not x) (sym (joint_bound xs j v w));
-    is = λ more. joint_is σ (new.names ++ more) j v w p q r f (still (λ l. IsParsed σ l v p) mid.names new.names (variables_in w) b.names a.is more) (b.is more);
-  }
+chain_roles : (j : Joint) (c : Place) → chains j ≡ true → (m.sign_roles j c ≡ m.joins ∷ []) × (m.right_place j c ≡ c)
+chain_roles and c h = (refl, refl)
+chain_roles or c h = (refl, refl)
+chain_roles imp c h = absurd (cc h)
+chain_roles iff c h = absurd (cc h)
 
-  pub negates : {old new : Input} {w : WrittenFormula} {p q : Formula} → Holds σ xs old new w p → form_of q ≡ form.no (form_of p)
-      → Holds σ xs old new (no w) q
-  negates {p = p} h f = record { names = h.names; loose = h.loose; is = λ more. (form_of p, f, h.is more) }
+nest_roles : (j : Joint) (c : Place) → nests j ≡ true → (m.sign_roles j c ≡ m.opens (suc c.depth) ∷ []) × (m.right_place j c ≡ deeper c)
+nest_roles imp c h = (refl, refl)
+nest_roles and c h = absurd (cc h)
+nest_roles or c h = absurd (cc h)
+nest_roles iff c h = absurd (cc h)
 
-  pub groups : {old new : Input} {w : WrittenFormula} {p q : Formula} → Holds σ xs old new w p → q ≡ p
-      → Holds σ xs old new (group w) q
-  groups {new = new} {w = w} h f = record {
-    names = h.names;
-    loose = h.loose;
-    is = λ more. subst (λ x. Stands σ (new.names ++ more) w (form_of x)) (sym f) (h.is more);
-  }
+no_roles : (j : Joint) (c : Place) → chains j ≡ false → nests j ≡ false → (m.sign_roles j c ≡ []) × (m.right_place j c ≡ c)
+no_roles iff c h n = (refl, refl)
+no_roles and c h n = absurd (cc h)
+no_roles or c h n = absurd (cc h)
+no_roles imp c h n = absurd (cc n)
 
--- ---- what is joined from the left
+-- `&` or `|`,
+pub chain_read : (j : Joint) (p : PlaceRead) (σ : Signature) (old new : Input) → chains j ≡ true → starts (sign j) (left_of old) ≡ true
+    → Takes (check (environment σ old.joints) m.joins) old new → new.joints ≡ suc old.joints → KeepsNames old new → p.depth ≤ 200 → ReadsSign j p σ old new p
+chain_read j p σ old new h next takes joints keeps depth =
+    let is = chain_roles j (place_of old p) h in
+    sign_read j p σ old next (m.joins ∷ []) (place_of old p) is.0 is.1 takes takes.right (ap (environment σ) (sym joints)) keeps (kept_place p keeps) depth
 
--- The first formulas of a list were read, with what goes on behind them.
-pub record ReadsFirst (tail : List WrittenFormula → Part) (part : WrittenFormula → Part) (many : WrittenFormula → List WrittenFormula → WrittenFormula)
-    (σ : Signature) (xs : List Text) (old new : Input) (p : Formula) : Type 0 where
-  pub written : WrittenFormula
-  pub reads : (gs : List WrittenFormula) (s : List Part) → Derives (tail gs ∷ s) (words_left new) → Derives (part (many written gs) ∷ s) (words_left old)
-  pub holds : Holds σ xs old new written p
+pub chain_stopped : (j : Joint) (p : PlaceRead) (σ : Signature) (old : Input) → chains j ≡ true → starts (sign j) (left_of old) ≡ true → (e : ReadError)
+    → Stops (check (environment σ old.joints) m.joins) old e → RefusesAt (m.tail j (place_of old p)) σ old e
+chain_stopped j p σ old h next e stops =
+    let is = chain_roles j (place_of old p) h in
+    sign_stopped j p σ old next (m.joins ∷ []) (place_of old p) is.0 is.1 e (check (environment σ old.joints) m.joins) stops refl
 
--- The first variables of a quantifier were read, with their numbers.
-pub record ReadsBound (outer : List Text) (old new : Input) (bound : List Text) (numbers : List ℕ) : Type 0 where
-  pub first : Text
-  pub more : List Text
-  pub reads : (rest : List Text) (s : List Part) → Derives (variables rest ∷ s) (words_left new)
-      → Derives (word k.Variable first ∷ variables (more ++ rest) ∷ s) (words_left old)
-  pub names : new.names ≡ first_occurrences old.names (first ∷ more)
-  pub loose : new.loose ≡ old.loose
-  pub bound_is : bound ≡ outer ++ first ∷ more
-  pub numbered : (later : List Text) → numbers ≡ map (number_in (new.names ++ later)) (first ∷ more)
+-- `->`,
+pub nest_answers : (j : Joint) (p : PlaceRead) (σ : Signature) (old new : Input) (r : Result PlaceRead ReadError) → nests j ≡ true → starts (sign j) (left_of old) ≡ true
+    → ((E : Environment) → OnOk r (Takes (check E (m.opens (suc p.depth))) old new)) → OnOk r (KeepsNames old new) → OnOk r (new.joints ≡ old.joints)
+    → IfOk r (λ inner. inner ≡ record p { depth = suc p.depth }) → IfOk r (λ inner. inner.depth ≤ 200)
+    → ((E : Environment) → IfErr r (λ e. Stops (check E (m.opens (suc p.depth))) old e))
+    → MatchResult r (λ inner. ReadsSign j p σ old new inner) (λ e. RefusesAt (m.tail j (place_of old p)) σ old e)
+nest_answers j p σ old new (Ok inner) h next takes keeps joints is depth stops =
+    let roles = nest_roles j (place_of old p) h in
+    let took_it = takes (environment σ old.joints) in
+    sign_read j p σ old next (m.opens (suc p.depth) ∷ []) (deeper (place_of old p)) roles.0 roles.1 took_it took_it.right (ap (environment σ) (sym joints)) keeps
+    (at_inner old new (ap (λ (scope : Scope). scope.bound) keeps.scope) is) depth
+nest_answers j p σ old new (Err e) h next takes keeps joints is depth stops =
+    let roles = nest_roles j (place_of old p) h in
+    sign_stopped j p σ old next (m.opens (suc p.depth) ∷ []) (deeper (place_of old p)) roles.0 roles.1 e (check (environment σ old.joints) (m.opens (suc p.depth)))
+    (stops (environment σ old.joints)) refl
 
--- ---- loops
+-- and `<->`
+pub plain_read : (j : Joint) (p : PlaceRead) (σ : Signature) (old new : Input) → chains j ≡ false → nests j ≡ false → starts (sign j) (left_of old) ≡ true → Takes None old new
+    → new.joints ≡ old.joints → KeepsNames old new → p.depth ≤ 200 → ReadsSign j p σ old new p
+plain_read j p σ old new h n next takes joints keeps depth =
+    let is = no_roles j (place_of old p) h n in
+    sign_read j p σ old next [] (place_of old p) is.0 is.1 takes (plainly old.pending takes.right) (ap (environment σ) (sym joints)) keeps (kept_place p keeps) depth
 
-module _ {σ : Signature} {xs : List Text} {old new : Input} {p : Formula} where
-  pub first_conjunct : ReadsFormula g.unary σ xs old new p → ReadsFirst g.and_tail g.conjunction all_of σ xs old new p
-  first_conjunct r = record { written = r.written; reads = λ gs s d. g.is_conjunction refl (r.reads (g.and_tail gs ∷ s) d); holds = read_holds r }
+pub plain_stopped : (j : Joint) (p : PlaceRead) (σ : Signature) (old : Input) → chains j ≡ false → nests j ≡ false → starts (sign j) (left_of old) ≡ true → (e : ReadError) → Stops None old e
+    → RefusesAt (m.tail j (place_of old p)) σ old e
+plain_stopped j p σ old h n next e stops =
+    let is = no_roles j (place_of old p) h n in
+    sign_stopped j p σ old next [] (place_of old p) is.0 is.1 e None stops (nothing_more old.pending)
 
-  pub all_conjuncts : ReadsFirst g.and_tail g.conjunction all_of σ xs old new p → ReadsFormula g.conjunction σ xs old new p
-  all_conjuncts r = holds_read r.holds (λ s d. r.reads [] s (g.no_and d))
+-- ---- what is made of memory that may be wanting
 
-  pub first_disjunct : ReadsFormula g.conjunction σ xs old new p → ReadsFirst g.or_tail g.disjunction some_of σ xs old new p
-  first_disjunct r = record { written = r.written; reads = λ gs s d. g.is_disjunction refl (r.reads (g.or_tail gs ∷ s) d); holds = read_holds r }
+pub made : {A : Type 0} {P F : A → Type 0} (x : Symbol) (σ : Signature) (old : Input) (r : Result A ReadError) → IfErr r (λ e. e ≡ NoMemory) → IfOk r F → ((v : A) → F v → P v)
+    → MatchResult r P (λ e. RefusesAt x σ old e)
+made x σ old (Ok v) none f p = p v f
+made x σ old (Err NoMemory) none f p = λ s. tt
+made x σ old (Err (Refused fault)) none f p = absurd (cc none)
 
-  pub all_disjuncts : ReadsFirst g.or_tail g.disjunction some_of σ xs old new p → ReadsFormula g.disjunction σ xs old new p
-  all_disjuncts r = holds_read r.holds (λ s d. r.reads [] s (g.no_or d))
+-- ---- what opens a nesting
 
-module _ {σ : Signature} {xs : List Text} {old mid taken new : Input} {p q r : Formula} where
-  pub next_conjunct : ReadsFirst g.and_tail g.conjunction all_of σ xs old mid p → Reads (g.mark k.Amp) mid taken → KeepsNames mid taken
-      → ReadsFormula g.unary σ xs taken new q → form_of r ≡ form.and (form_of p) (form_of q)
-      → ReadsFirst g.and_tail g.conjunction all_of σ xs old new r
-  next_conjunct a amp keeps b f = record {
-    written = and a.written b.written;
-    reads = λ gs u d. a.reads (b.written ∷ gs) u (g.next_and (amp _ (b.reads _ d)));
-    holds = joins joint.And (holds_before a.holds keeps) (read_holds b) f;
-  }
+module _ (kind : TokenKind) (σ : Signature) (old : Input) (p : PlaceRead) (next : starts kind (left_of old) ≡ true) (x : Place → Symbol) (rest : Stack)
+    (row_is : row (m.operand 5 (place_of old p)) (ahead kind old) ≡ Some (m.opens (suc p.depth) ∷ [], x (deeper (place_of old p)) ∷ rest)) where
+  pub nested : {mid : Input} {inner : PlaceRead} → ((E : Environment) → Takes (check E (m.opens (suc p.depth))) old mid) → mid.joints ≡ old.joints → mid.scope ≡ old.scope
+      → inner ≡ record p { depth = suc p.depth } → (s : Stack) → fault_of σ old (m.operand 5 (place_of old p) ∷ s) ≡ fault_of σ mid (x (place_of mid inner) ∷ rest ++ s)
+  nested {mid} takes joints scope is s =
+      took_in kind next (takes (environment σ old.joints)) σ σ (m.operand 5 (place_of old p)) (m.opens (suc p.depth)) (x (deeper (place_of old p)) ∷ rest) row_is refl
+      (ap (environment σ) (sym joints)) s
+      ∙ ap (λ c. fault_of σ mid (x c ∷ rest ++ s)) (sym (at_inner old mid (ap (λ (scope : Scope). scope.bound) scope) is))
 
-  pub next_disjunct : ReadsFirst g.or_tail g.disjunction some_of σ xs old mid p → Reads (g.mark k.Bar) mid taken → KeepsNames mid taken
-      → ReadsFormula g.conjunction σ xs taken new q → form_of r ≡ form.or (form_of p) (form_of q)
-      → ReadsFirst g.or_tail g.disjunction some_of σ xs old new r
-  next_disjunct a bar keeps b f = record {
-    written = or a.written b.written;
-    reads = λ gs u d. a.reads (b.written ∷ gs) u (g.next_or (bar _ (b.reads _ d)));
-    holds = joins joint.Or (holds_before a.holds keeps) (read_holds b) f;
-  }
+  pub not_nested : (e : ReadError) → ((E : Environment) → Stops (check E (m.opens (suc p.depth))) old e) → RefusesAt (m.operand 5 (place_of old p)) σ old e
+  not_nested e stops =
+      stopped_in kind old next σ e (stops (environment σ old.joints)) (m.operand 5 (place_of old p)) (m.opens (suc p.depth)) (x (deeper (place_of old p)) ∷ rest) row_is refl
 
-module _ (σ : Signature) {xs : List Text} {old mid taken new : Input} {p q r : Formula} where
-  pub both_imply : ReadsFormula g.disjunction σ xs old mid p → Reads (g.mark k.Arrow) mid taken → KeepsNames mid taken → ReadsFormula g.implication σ xs taken new q
-      → form_of r ≡ form.imp (form_of p) (form_of q) → ReadsFormula g.implication σ xs old new r
-  both_imply a arrow keeps b f =
-      holds_read (joins joint.Imp (holds_before (read_holds a) keeps) (read_holds b) f)
-      (λ u d. g.is_implication refl (a.reads _ (g.some_imp (arrow _ (b.reads _ d)))))
+no_stands : (σ : Signature) (names : List Text) (w : WrittenFormula) (f g : Form) → g ≡ form.no f → Stands σ names w f → Stands σ names (no w) g
+no_stands σ names w f g is a = (f, is, a)
 
-  pub both_equal : ReadsFormula g.implication σ xs old mid p → Reads (g.mark k.DoubleArrow) mid taken → KeepsNames mid taken → ReadsFormula g.implication σ xs taken new q
-      → form_of r ≡ form.iff (form_of p) (form_of q) → ReadsFormula g.formula σ xs old new r
-  both_equal a arrow keeps b f =
-      holds_read (joins joint.Iff (holds_before (read_holds a) keeps) (read_holds b) f)
-      (λ u d. g.is_formula refl (a.reads _ (g.some_iff (arrow _ (b.reads _ d)))))
+pub no_read : {σ : Signature} {old mid new : Input} {f g : Formula} → words_left old ≡ mark k.Tilde ∷ words_left mid → KeepsNames old mid → mid.bytes ≡ old.bytes → old.at ≤ mid.at
+    → ReadOperand 5 σ mid new f → form_of g ≡ form.no (form_of f) → ReadOperand 5 σ old new g
+no_read {σ} {f = f} {g = g} text keeps bytes on r is =
+    enclosed formula_words variables_in is_bound (IsOperand 5) (λ w. no w) (λ w. refl) (λ xs w. refl) keeps r (record { scope = refl; loose = refl })
+    (λ names one. record {
+      strong = omega arith;
+      levelled = (one.strong, one.levelled);
+      stands = no_stands σ names r.written (form_of f) (form_of g) is one.stands;
+    })
+    (text ∙ ap (λ ws. mark k.Tilde ∷ ws) r.text) bytes refl on (omega arith)
 
-module _ (σ : Signature) {xs : List Text} {old new : Input} {p : Formula} where
-  pub plain_implication : ReadsFormula g.disjunction σ xs old new p → ReadsFormula g.implication σ xs old new p
-  plain_implication r = holds_read (read_holds r) (λ u d. g.is_implication refl (r.reads _ (g.no_imp d)))
+pub group_read : {σ : Signature} {old mid behind new : Input} {f : Formula} → words_left old ≡ mark k.LeftParen ∷ words_left mid → KeepsNames old mid → mid.bytes ≡ old.bytes → old.at ≤ mid.at
+    → ReadOperand 1 σ mid behind f → TakesWord (m.plain k.RightParen) (mark k.RightParen) σ behind new → ReadOperand 5 σ old new f
+group_read text keeps bytes on r last =
+    enclosed formula_words variables_in is_bound (IsOperand 5) (λ w. group w) (λ w. refl) (λ xs w. refl) keeps r last.keeps
+    (λ names one. record { strong = omega arith; levelled = one.levelled; stands = one.stands })
+    (text ∙ ap (λ ws. mark k.LeftParen ∷ ws) (r.text ∙ ap (λ ws. formula_words r.written ws) last.words)) bytes last.bytes on (omega (arith, last.on))
 
-  pub plain_formula : ReadsFormula g.implication σ xs old new p → ReadsFormula g.formula σ xs old new p
-  plain_formula r = holds_read (read_holds r) (λ u d. g.is_formula refl (r.reads _ (g.no_iff d)))
-
--- ---- formulas of the strongest kind
-
-pub not_read : (σ : Signature) {xs : List Text} {old mid new : Input} {p q : Formula} → Reads (g.mark k.Tilde) old mid → KeepsNames old mid → ReadsFormula g.unary σ xs mid new p
-    → form_of q ≡ form.no (form_of p) → ReadsFormula g.unary σ xs old new q
-not_read σ tilde keeps r f = holds_read (negates (holds_behind keeps (read_holds r)) f) (λ u d. g.is_not (tilde _ (r.reads _ d)))
-
-pub group_read : (σ : Signature) {xs : List Text} {old mid behind new : Input} {p q : Formula} → Reads (g.mark k.LeftParen) old mid → KeepsNames old mid
-    → ReadsFormula g.formula σ xs mid behind p → Reads (g.mark k.RightParen) behind new → KeepsNames behind new
-    → q ≡ p → ReadsFormula g.unary σ xs old new q
-group_read σ opens keeps r close kept f =
-    holds_read (groups (holds_behind keeps (holds_before (read_holds r) kept)) f) (λ u d. g.is_group (opens _ (r.reads _ (close _ d))))
-
-quantified_reads : {σ : Signature} {xs : List Text} (old : Input) {mid new : Input} {numbers : List ℕ} {p : Formula} (kind : TokenKind) → Reads (g.mark kind) old mid
-    → (r : ReadsQuantified σ xs mid new numbers p)
-    → (s : List Part) → Derives s (words_left new)
-    → Derives (g.mark kind ∷ word k.Variable r.first ∷ variables r.more ∷ g.mark k.Colon ∷ g.unary r.body ∷ s) (words_left old)
-quantified_reads old kind mark r s d = mark _ (r.reads s d)
-
-numbered_form : {σ : Signature} {xs : List Text} {mid new : Input} {numbers : List ℕ} {p : Formula} (q : Formula) (quantifier : ℕ → Form → Form)
-    (r : ReadsQuantified σ xs mid new numbers p) (later : List Text) → form_of q ≡ behind quantifier numbers (form_of p)
-    → form_of q ≡ behind quantifier (map (number_in (new.names ++ later)) (r.first ∷ r.more)) (form_of p)
-numbered_form {p = p} q quantifier r later f = f ∙ ap (λ l. behind quantifier l (form_of p)) (r.numbered later)
-
-module _ {σ : Signature} {xs : List Text} {old mid new : Input} {numbers : List ℕ} {p q : Formula} where
-  pub exists_read : Reads (g.mark k.«Exists») old mid → KeepsNames old mid → ReadsQuantified σ xs mid new numbers p
-      → form_of q ≡ behind form.exists numbers (form_of p) → ReadsFormula g.unary σ xs old new q
-  exists_read mark keeps r f =
-      holds_read (holds_behind keeps (record {
-        names = r.names;
-        loose = r.loose;
-        is = λ later. (form_of p, numbered_form q form.exists r later f, r.is later);
-      })) (λ u d. g.is_exists (quantified_reads old k.«Exists» mark r u d))
-
-  pub forall_read : Reads (g.mark k.Forall) old mid → KeepsNames old mid → ReadsQuantified σ xs mid new numbers p
-      → form_of q ≡ behind form.forall numbers (form_of p) → ReadsFormula g.unary σ xs old new q
-  forall_read mark keeps r f =
-      holds_read (holds_behind keeps (record {
-        names = r.names;
-        loose = r.loose;
-        is = λ later. (form_of p, numbered_form q form.forall r later f, r.is later);
-      })) (λ u d. g.is_forall (quantified_reads old k.Forall mark r u d))
+pub quantified_read : (q : Quantifier) {σ : Signature} {old mid new : Input} {f : Formula} → words_left old ≡ mark (quantifier_kind q) ∷ words_left mid → KeepsNames old mid → mid.bytes ≡ old.bytes
+    → old.at ≤ mid.at → ReadQuantified q σ mid new f → ReadOperand 5 σ old new f
+quantified_read q text keeps bytes on r =
+    enclosed formula_words variables_in is_bound (IsOperand 5) (λ b. quantified q b.first b.more b.body) (λ b. refl) (λ xs b. refl) keeps r (record { scope = refl; loose = refl })
+    (λ names one. one) (text ∙ ap (λ ws. mark (quantifier_kind q) ∷ ws) r.text) bytes refl on (omega arith)
 
 -- ---- the variables of a quantifier
 
-pub first_bound : {outer bound : List Text} {old new : Input} {none numbers : List ℕ} {n : ℕ} (x : Text) → Reads (word k.Variable x) old new
-    → new.names ≡ first_occurrences old.names (x ∷ []) → new.loose ≡ old.loose → bound ≡ outer ++ x ∷ []
-    → ((later : List Text) → number_in (new.names ++ later) x ≡ n) → none ≡ [] → numbers ≡ none ++ n ∷ [] → ReadsBound outer old new bound numbers
-first_bound {n = n} x d names loose bound numbered empty is = record {
-  first = x;
-  more = [];
-  reads = λ rest s e. d _ e;
-  names = names;
-  loose = loose;
-  bound_is = bound;
-  numbered = λ later. is ∙ ap (λ l. l ++ n ∷ []) empty ∙ ap (λ m. m ∷ []) (sym (numbered later));
-}
+-- so many variables were bound
+pub record Binds (σ : Signature) (p : PlaceRead) (old now : Input) : Type 0 where
+  pub first : Text
+  pub more : List Text
+  pub faults : (s : Stack) → fault_of σ old (m.bound_variable (place_of old p) ∷ s) ≡ fault_of σ now (m.more_variables (place_of now p) ∷ s)
+  pub text : words_left old ≡ word k.Variable first ∷ variables_words more (words_left now)
+  pub scope : now.scope ≡ record { names = first_occurrences old.scope.names (first ∷ more); bound = old.scope.bound ++ first ∷ more }
+  pub loose : now.loose ≡ old.loose
+  pub bytes : now.bytes ≡ old.bytes
+  pub on : old.at ≤ now.at
+  pub less : room now < room old
 
-pub next_bound : {outer bound longer : List Text} {old mid new : Input} {numbers more_numbers : List ℕ} {n : ℕ} (x : Text) → ReadsBound outer old mid bound numbers
-    → Reads (word k.Variable x) mid new → new.names ≡ first_occurrences mid.names (x ∷ []) → new.loose ≡ mid.loose → longer ≡ bound ++ x ∷ []
-    → ((later : List Text) → number_in (new.names ++ later) x ≡ n) → more_numbers ≡ numbers ++ n ∷ [] → ReadsBound outer old new longer more_numbers
-next_bound {outer} {bound} {longer} {old} {mid} {new} {numbers} {more_numbers} {n} x r d names loose bound_is numbered is = record {
-  first = r.first;
-  more = r.more ++ x ∷ [];
-  reads = λ rest s e. subst (λ l. Derives (word k.Variable r.first ∷ variables l ∷ s) (words_left old)) (sym (append_assoc r.more (x ∷ []) rest))
-      (r.reads (x ∷ rest) s (g.next_variable (d _ e)));
-  names = names ∙ ap (λ l. first_occurrences l (x ∷ [])) r.names ∙ sym (first_append old.names (r.first ∷ r.more) (x ∷ []));
-  loose = loose ∙ r.loose;
-  bound_is = bound_is ∙ ap (λ l. l ++ x ∷ []) r.bound_is ∙ append_assoc outer (r.first ∷ r.more) (x ∷ []);
-  numbered = λ later. is ∙ ap (λ l. l ++ n ∷ []) (still (λ l. numbers ≡ map (number_in l) (r.first ∷ r.more)) mid.names new.names (x ∷ []) names r.numbered later)
-      ∙ ap (λ m. map (number_in (new.names ++ later)) (r.first ∷ r.more) ++ m ∷ []) (sym (numbered later))
-      ∙ sym (map_push (number_in (new.names ++ later)) (r.first ∷ r.more) x);
-}
+more_words : (xs : List Text) (x : Text) (ws : List Word) → variables_words (xs ++ x ∷ []) ws ≡ variables_words xs (word k.Variable x ∷ ws)
+more_words [] x ws = refl
+more_words (y ∷ xs) x ws = ap (λ vs. word k.Variable y ∷ vs) (more_words xs x ws)
 
-pub body_read : {σ : Signature} {outer bound : List Text} {old mid behind new : Input} {numbers : List ℕ} {p : Formula} → ReadsBound outer old mid bound numbers
-    → Reads (g.mark k.Colon) mid behind → KeepsNames mid behind → ReadsFormula g.unary σ bound behind new p → ReadsQuantified σ outer old new numbers p
-body_read {σ} {outer} {bound} {old} {mid} {behind} {new} {numbers} {p} r colon keeps b =
-    let names : new.names ≡ first_occurrences mid.names (variables_in b.written) = b.names ∙ ap (λ l. first_occurrences l (variables_in b.written)) keeps.names in
-    record {
-      first = r.first;
-      more = r.more;
-      body = b.written;
-      reads = λ s d. subst (λ l. Derives (word k.Variable r.first ∷ variables l ∷ g.mark k.Colon ∷ g.unary b.written ∷ s) (words_left old)) (append-nil r.more)
-          (r.reads [] _ (g.no_variables (colon _ (b.reads s d))));
-      names = names ∙ ap (λ l. first_occurrences l (variables_in b.written)) r.names ∙ sym (first_append old.names (r.first ∷ r.more) (variables_in b.written));
-      loose = b.loose ∙ ap (λ l. l || not (is_bound bound b.written)) (keeps.loose ∙ r.loose) ∙ ap (λ l. old.loose || not (is_bound l b.written)) r.bound_is;
-      is = b.is;
-      numbered = still (λ l. numbers ≡ map (number_in l) (r.first ∷ r.more)) mid.names new.names (variables_in b.written) names r.numbered;
-    }
+-- the next variable was bound, where a symbol is expected that takes it
+module _ (σ : Signature) (p : PlaceRead) (old new : Input) (next : starts k.Variable (left_of old) ≡ true)
+    (takes : (τ : Signature) → Takes (check (environment τ old.joints) (m.binds (text_ahead old))) old new) (joints : new.joints ≡ suc old.joints)
+    (scope : new.scope ≡ record { names = first_occurrences old.scope.names (text_ahead old ∷ []); bound = old.scope.bound ++ text_ahead old ∷ [] }) where
+  binds_next : (x : Symbol) → row x (ahead k.Variable old) ≡ Some (m.binds (text_ahead old) ∷ [], m.more_variables (binding (text_ahead old) (place_of old p)) ∷ [])
+      → (s : Stack) → fault_of σ old (x ∷ s) ≡ fault_of σ new (m.more_variables (place_of new p) ∷ s)
+  binds_next x row_is s =
+      took_in k.Variable next (takes σ) σ σ x (m.binds (text_ahead old)) (m.more_variables (binding (text_ahead old) (place_of old p)) ∷ []) row_is refl (ap (environment σ) (sym joints)) s
+      ∙ ap (λ (of : Scope). fault_of σ new (m.more_variables (record { depth = p.depth; bound = of.bound; closed = p.closed }) ∷ s)) (sym scope)
 
--- a formula within one more nesting has the same variables bound
-pub under : (part : WrittenFormula → Part) (σ : Signature) {old new : Input} {p : Formula} (inner c : Place) → inner ≡ deeper c
-    → ReadsFormula part σ inner.bound old new p → ReadsFormula part σ c.bound old new p
-under part σ {old} {new} {p} inner c is r = subst (λ xs. ReadsFormula part σ xs old new p) (ap (λ q. q.bound) is) r
+  pub first_bound : new.loose ≡ old.loose → Binds σ p old new
+  first_bound loose = record {
+    first = text_ahead old;
+    more = [];
+    faults = binds_next (m.bound_variable (place_of old p)) refl;
+    text = words_taken k.Variable next (takes σ);
+    scope = scope;
+    loose = loose;
+    bytes = (takes σ).bytes;
+    on = omega (arith, (takes σ).on);
+    less = less (takes σ);
+  }
 
-pub quantified_under : (σ : Signature) {old new : Input} {numbers : List ℕ} {p : Formula} (inner c : Place) → inner ≡ deeper c
-    → ReadsQuantified σ inner.bound old new numbers p → ReadsQuantified σ c.bound old new numbers p
-quantified_under σ {old} {new} {numbers} {p} inner c is r = subst (λ xs. ReadsQuantified σ xs old new numbers p) (ap (λ q. q.bound) is) r
+  pub next_bound : {start : Input} → Binds σ p start old → new.loose ≡ old.loose → Binds σ p start new
+  next_bound {start} far loose =
+      let further = less (takes σ) in
+      record {
+        first = far.first;
+        more = far.more ++ text_ahead old ∷ [];
+        faults = λ s. far.faults s ∙ binds_next (m.more_variables (place_of old p)) refl s;
+        text = far.text ∙ ap (λ ws. word k.Variable far.first ∷ variables_words far.more ws) (words_taken k.Variable next (takes σ))
+            ∙ ap (λ ws. word k.Variable far.first ∷ ws) (sym (more_words far.more (text_ahead old) (words_left new)));
+        scope = scope
+            ∙ ap (λ (of : Scope). record { names = first_occurrences of.names (text_ahead old ∷ []); bound = of.bound ++ text_ahead old ∷ [] }) far.scope
+            ∙ ap (λ names. record { names = names; bound = (start.scope.bound ++ far.first ∷ far.more) ++ text_ahead old ∷ [] })
+            (sym (first_append start.scope.names (far.first ∷ far.more) (text_ahead old ∷ [])))
+            ∙ ap (λ bound. record { names = first_occurrences start.scope.names (far.first ∷ far.more ++ text_ahead old ∷ []); bound = bound })
+            (append_assoc start.scope.bound (far.first ∷ far.more) (text_ahead old ∷ []));
+        loose = loose ∙ far.loose;
+        bytes = (takes σ).bytes ∙ far.bytes;
+        on = omega (arith, far.on, (takes σ).on);
+        less = omega (arith, further, far.less);
+      }
 
--- the variables that are bound so far, copied, and one more
-pub copied_and_one : (none copied outer : List (Bor (List ℕ))) (bound : List Text) (x : Text) → none ≡ [] → copied ≡ none ++ outer → bound ≡ texts_of copied ++ x ∷ []
-    → bound ≡ texts_of outer ++ x ∷ []
-copied_and_one none copied outer bound x empty copy is = is ∙ ap (λ l. texts_of l ++ x ∷ []) (copy ∙ ap (λ l. l ++ outer) empty)
+pub not_bound : (σ : Signature) (p : PlaceRead) (old : Input) → starts k.Variable (left_of old) ≡ true → (x : Symbol) (e : ReadError)
+    → ((τ : Signature) → Stops (check (environment τ old.joints) (m.binds (text_ahead old))) old e)
+    → row x (ahead k.Variable old) ≡ Some (m.binds (text_ahead old) ∷ [], m.more_variables (binding (text_ahead old) (place_of old p)) ∷ []) → RefusesAt x σ old e
+not_bound σ p old next x e stops row_is =
+    stopped_in k.Variable old next σ e (stops σ) x (m.binds (text_ahead old)) (m.more_variables (binding (text_ahead old) (place_of old p)) ∷ []) row_is refl
+
+variables_none : (c : Place) (kind : TokenKind) (text : Text) → same kind k.Variable ≡ false → same kind k.Colon ≡ false → variables_row c kind text ≡ None
+variables_none c k.Variable text v d = absurd (cc v)
+variables_none c k.Colon text v d = absurd (cc d)
+variables_none c kind text v d = refl
+
+pub variables_blocked : (i : Input) (c : Place) → starts k.Variable (left_of i) ≡ false → starts k.Colon (left_of i) ≡ false → Blocks (m.more_variables c) i
+variables_blocked i c v d t more is = variables_none c t.kind _ (not_starting k.Variable (left_of i) t more v is) (not_starting k.Colon (left_of i) t more d is)
+
+pub colon_taken : (σ : Signature) (p : PlaceRead) (old new : Input) → starts k.Colon (left_of old) ≡ true → Takes None old new → KeepsNames old new → new.joints ≡ old.joints
+    → (s : Stack) → fault_of σ old (m.more_variables (place_of old p) ∷ s) ≡ fault_of σ new (m.operand 5 (place_of new p) ∷ s)
+colon_taken σ p old new next takes keeps joints s =
+    took_plain k.Colon next takes σ (m.more_variables (place_of old p)) (m.operand 5 (place_of old p) ∷ []) refl joints s
+    ∙ ap (λ c. fault_of σ new (m.operand 5 c ∷ s)) (sym (kept_place p keeps))
+
+-- the numbers of the variables that were bound
+bound_stands : (q : Quantifier) (σ : Signature) (names : List Text) (b : Bound) (f g : Form) (numbers : List ℕ) → numbers ≡ map (number_in names) (b.first ∷ b.more)
+    → g ≡ behind (quantifier_form q) numbers f → Stands σ names b.body f → Stands σ names (quantified q b.first b.more b.body) g
+bound_stands q σ names b f g numbers numbered is a = (f, is ∙ ap (λ ns. behind (quantifier_form q) ns f) numbered, a)
+
+drop_front : (xs ys : List Text) → drop (length xs) (xs ++ ys) ≡ ys
+drop_front [] ys = refl
+drop_front (x ∷ xs) ys = drop_front xs ys
+
+take_front : (xs ys : List Text) → take (length xs) (xs ++ ys) ≡ xs
+take_front [] ys = refl
+take_front (x ∷ xs) ys = ap (λ zs. x ∷ zs) (take_front xs ys)
+
+-- the body was read, and its variables are bound no more
+pub body_read : (q : Quantifier) {σ : Signature} {p : PlaceRead} {old now mid new : Input} {f g : Formula} (outer : ℕ) (numbers : List ℕ) → Binds σ p old now
+    → words_left now ≡ mark k.Colon ∷ words_left mid → KeepsNames now mid → mid.bytes ≡ now.bytes → now.at ≤ mid.at → ReadOperand 5 σ mid new f
+    → outer ≡ length old.scope.bound → ((more : List Text) → numbers ≡ map (number_in (new.scope.names ++ more)) (drop outer new.scope.bound))
+    → form_of g ≡ behind (quantifier_form q) numbers (form_of f) → (released : Input)
+    → released ≡ record new { scope = record { names = new.scope.names; bound = take outer new.scope.bound } } → ReadQuantified q σ old released g
+body_read q {σ} {p} {old} {now} {mid} {new} {f} {g} outer numbers far text keeps bytes on r outer_is numbered is released released_is =
+    let b : Bound = record { first = far.first; more = far.more; body = r.written } in
+    let scope_is : new.scope ≡ record { names = first_occurrences old.scope.names (bound_variables b); bound = old.scope.bound ++ far.first ∷ far.more } =
+    r.scope ∙ ap (λ of. added of (variables_in r.written)) (keeps.scope ∙ far.scope)
+    ∙ ap (λ names. record { names = names; bound = old.scope.bound ++ far.first ∷ far.more }) (sym (first_append old.scope.names (far.first ∷ far.more) (variables_in r.written))) in
+    subst (λ i. ReadQuantified q σ old i g) (sym released_is) (record {
+      written = b;
+      text = far.text ∙ ap (λ ws. word k.Variable far.first ∷ variables_words far.more ws) (text ∙ ap (λ ws. mark k.Colon ∷ ws) r.text);
+      scope = ap (λ (of : Scope). record { names = of.names; bound = take outer of.bound }) scope_is
+          ∙ ap (λ n. record { names = first_occurrences old.scope.names (bound_variables b); bound = take n (old.scope.bound ++ far.first ∷ far.more) }) outer_is
+          ∙ ap (λ bound. record { names = first_occurrences old.scope.names (bound_variables b); bound = bound }) (take_front old.scope.bound (far.first ∷ far.more));
+      loose = r.loose ∙ ap (λ x. x || not (is_bound mid.scope.bound r.written)) (keeps.loose ∙ far.loose)
+          ∙ ap (λ (of : Scope). old.loose || not (is_bound of.bound r.written)) (keeps.scope ∙ far.scope);
+      is = λ more. record {
+        strong = omega arith;
+        levelled = ((r.is more).strong, (r.is more).levelled);
+        stands = bound_stands q σ (new.scope.names ++ more) b (form_of f) (form_of g) numbers
+            (numbered more ∙ ap (λ (of : Scope). map (number_in (new.scope.names ++ more)) (drop outer of.bound)) scope_is
+            ∙ ap (λ n. map (number_in (new.scope.names ++ more)) (drop n (old.scope.bound ++ far.first ∷ far.more))) outer_is
+            ∙ ap (map (number_in (new.scope.names ++ more))) (drop_front old.scope.bound (far.first ∷ far.more)))
+            is (r.is more).stands;
+      };
+      bytes = r.bytes ∙ bytes ∙ far.bytes;
+      on = omega (arith, far.on, on, r.on);
+    })
+
+-- those that were bound before are bound behind the body
+pub outer_within : {σ : Signature} {p : PlaceRead} {old now mid new : Input} {f : Formula} {outer : ℕ} → outer ≡ length old.scope.bound → Binds σ p old now → KeepsNames now mid
+    → ReadOperand 5 σ mid new f → outer ≤ length new.scope.bound
+outer_within {old = old} {now = now} {mid = mid} {new = new} is far keeps r =
+    let same : length new.scope.bound ≡ length (old.scope.bound ++ far.first ∷ far.more) = ap (λ (of : Scope). length of.bound) (r.scope ∙ ap (λ of. added of (variables_in r.written)) (keeps.scope ∙ far.scope)) in
+    omega (arith, is, same, length-append old.scope.bound (far.first ∷ far.more))

@@ -1,5 +1,5 @@
 -- How the names of variables are kept, as the keys of a set.
-use Rattle.std.proofs.Common.{◌≡◌, Bool, true, false, ◌||◌, List, [], ◌∷◌, ◌++◌, map, String, string_bytes, refl, sym, ap, ◌∙◌}
+use Rattle.std.proofs.Common.{◌≡◌, Bool, true, false, ◌||◌, List, [], ◌∷◌, ◌++◌, String, string_bytes, refl, sym, ◌∙◌}
 use Rattle.std.specs.Prelude.{position, if◌then◌else◌}
 use Rattle.std.specs.List.{list_any}
 use Rattle.std.specs.Str.{bytes_eq}
@@ -14,9 +14,7 @@ use Rattle.signature.proofs.Standing.{position-map}
 use Rattle.formula_grammar.specs.Written.{Text}
 use Rattle.formula_grammar.specs.Checks.{is_among}
 use Rattle.formula_grammar.specs.Meaning.{first_occurrences}
-
-abbrev pub texts_in : List (String Global) → List Text
-texts_in keys = map (λ text. string_bytes text) keys
+use Rattle.formula_reader.specs.Scopes.{texts_of}
 
 either_order : (x y : Text) → bytes_eq x y ≡ bytes_eq y x
 either_order x y = by_test (bytes_eq x y) refl
@@ -27,26 +25,22 @@ either_order x y = by_test (bytes_eq x y) refl
 
 -- the place of a key is the number of the name
 pub found_in : (keys : List (String Global)) (x : Text)
-    → position (λ key. bytes_eq x (string_bytes key)) keys ≡ position (λ other. bytes_eq other x) (texts_in keys)
+    → position (λ key. bytes_eq x (string_bytes key)) keys ≡ position (λ other. bytes_eq other x) (texts_of keys)
 found_in keys x =
-    sym (position-map (λ other. bytes_eq x other) (λ (text : String Global). string_bytes text) keys) ∙ (λ i. position (λ other. either_order x other i) (texts_in keys))
+    sym (position-map (λ other. bytes_eq x other) (λ (text : String Global). string_bytes text) keys) ∙ (λ i. position (λ other. either_order x other i) (texts_of keys))
 
-among_keys : (keys : List (String Global)) (key : String Global) → list_any (string_eq key) keys ≡ is_among (string_bytes key) (texts_in keys)
+among_keys : (keys : List (String Global)) (key : String Global) → list_any (string_eq key) keys ≡ is_among (string_bytes key) (texts_of keys)
 among_keys [] key = refl
 among_keys (other ∷ keys) key =
     λ i. either_order (string_bytes key) (string_bytes other) i || among_keys keys key i
 
 -- a new key stands last, and its name behind the other names
 pub added_to : (keys : List (String Global)) (key : String Global)
-    → texts_in (insert_key string_eq keys key) ≡ first_occurrences (texts_in keys) (string_bytes key ∷ [])
-added_to keys key = by_test (list_any (string_eq key) keys) (is_among (string_bytes key) (texts_in keys)) (among_keys keys key)
+    → texts_of (insert_key string_eq keys key) ≡ first_occurrences (texts_of keys) (string_bytes key ∷ [])
+added_to keys key = by_test (list_any (string_eq key) keys) (is_among (string_bytes key) (texts_of keys)) (among_keys keys key)
   where
-    by_test : (b c : Bool) → b ≡ c → texts_in (if b then keys else keys ++ key ∷ []) ≡ (if c then texts_in keys else texts_in keys ++ string_bytes key ∷ [])
+    by_test : (b c : Bool) → b ≡ c → texts_of (if b then keys else keys ++ key ∷ []) ≡ (if c then texts_of keys else texts_of keys ++ string_bytes key ∷ [])
     by_test true true same = refl
     by_test true false same = cc
     by_test false true same = cc
     by_test false false same = map_push (λ (text : String Global). string_bytes text) keys key
-
--- a name that is not there stands behind the others
-pub new_behind : (names texts : List Text) (x : Text) → names ≡ texts → is_among x texts ≡ false → first_occurrences names (x ∷ []) ≡ names ++ x ∷ []
-new_behind names texts x same absent = ap (λ b. if b then names else names ++ x ∷ []) (ap (is_among x) same ∙ absent)

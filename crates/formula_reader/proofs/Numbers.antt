@@ -1,17 +1,13 @@
 -- The number of a variable stays the same whatever names are added behind it.
-use Rattle.std.proofs.Common.{◌≡◌, ℕ, suc, ◌+◌, ◌<◌, ◌≤◌, Bool, true, false, cond, not, nat_lt, nat_le, List, [], ◌∷◌, ◌++◌, length, Option, Some, None, refl, sym, ap, ◌∙◌, arith, lt-ltb, length-append, append_assoc}
+use Rattle.std.proofs.Common.{◌≡◌, ℕ, suc, ◌+◌, ◌<◌, ◌≤◌, Bool, true, false, cond, not, nat_lt, List, [], ◌∷◌, ◌++◌, length, Some, None, refl, sym, ap, ◌∙◌, arith, lt-ltb, length-append, append_assoc}
 use Rattle.std.specs.Prelude.{position, unwrap_or, if◌then◌else◌}
 use Rattle.std.specs.Str.{bytes_eq}
 use Rattle.std.specs.List.{position_or_len}
 use Rattle.std.specs.Option.{is_some}
 use Rattle.std.proofs.lemmas.Bool.Decides.{nat_tests}
 use Rattle.std.proofs.lemmas.Slice.Eq.{bytes_eq-Decides}
-use Rattle.formula_grammar.specs.declared.fault.FaultKind.{FaultKind}
-use Rattle.formula_grammar.specs.declared.fault.FaultKind.TheVariants.{Limit}
 use Rattle.formula_grammar.specs.Written.{Text}
-use Rattle.formula_grammar.specs.Checks.{first_of, rank, sooner}
 use Rattle.formula_grammar.specs.Meaning.{number_in, first_occurrences}
-use Rattle.formula_reader.specs.Input.{Input}
 use Rattle.formula_reader.proofs.Finding.{found_any}
 
 within_stays : (b : Bool) (m k n : ℕ) → cond (not b) (1 + m) 0 < suc n → (m < n → k ≡ m) → cond (not b) (1 + k) 0 ≡ cond (not b) (1 + m) 0
@@ -76,22 +72,18 @@ module _ (names : List Text) (x : Text) where
   added_last absent =
       ap (λ b. if b then names else names ++ x ∷ []) (sym (found_any (λ n. bytes_eq n x) names) ∙ ap is_some absent)
 
--- what passed a limit is within it
-within_limit : (b : Bool) (m n : ℕ) → nat_lt n m ≡ b → first_of ((b, Limit) ∷ []) ≡ None → m ≤ n
-within_limit true m n is h = cc
-within_limit false m n is h = lt_false n m is
+-- where a name that is found stands, whatever stands behind the names
+pub found_kept : (names : List Text) (x : Text) (i : ℕ) → position (λ n. bytes_eq n x) names ≡ Some i → (more : List Text)
+    → position (λ n. bytes_eq n x) (names ++ more) ≡ Some i
+found_kept names x i found more =
+    let tells = some_tells _ _ i found in
+    let within : position_or_len (λ n. bytes_eq n x) names < length names = lt_true _ _ tells.0 in
+    let stays = position_stays (λ n. bytes_eq n x) names more within in
+    rw (lt-ltb (position_or_len (λ n. bytes_eq n x) (names ++ more)) (length (names ++ more)) (omega (arith, stays, within, length-append names more))) (ap (λ n. Some n) (stays ∙ tells.1))
 
-nothing_sooner : (x y : Option FaultKind) → sooner x y ≡ None → y ≡ None
-nothing_sooner None y h = h
-nothing_sooner (Some a) None h = refl
-nothing_sooner (Some a) (Some b) h = by_test (nat_le (rank a) (rank b)) h
-  where
-    by_test : (t : Bool) → (if t then Some a else Some b) ≡ None → Some b ≡ None
-    by_test true h = cc
-    by_test false h = h
-
-pub is_within : (x : Option FaultKind) (m n : ℕ) → sooner x (first_of ((nat_lt n m, Limit) ∷ [])) ≡ None → m ≤ n
-is_within x m n h = within_limit _ m n refl (nothing_sooner x _ h)
-
-pub renamed : (i : Input) (names : List Text) → i.names ≡ names → i ≡ record i { names = names }
-renamed i names is = ap (λ n. record i { names = n }) is
+-- a new name is found behind the others
+pub found_new : (names : List Text) (x : Text) → position (λ n. bytes_eq n x) names ≡ None → position (λ n. bytes_eq n x) (names ++ x ∷ []) ≡ Some (length names)
+found_new names x absent =
+    let past : length names ≤ position_or_len (λ n. bytes_eq n x) names = lt_false _ _ (none_tells _ _ absent) in
+    let behind = position_behind (λ n. bytes_eq n x) names [] x past ((bytes_eq-Decides x x).1 refl) in
+    rw (lt-ltb (position_or_len (λ n. bytes_eq n x) (names ++ x ∷ [])) (length (names ++ x ∷ [])) (omega (arith, behind, length-append names (x ∷ [])))) (ap (λ n. Some n) behind)

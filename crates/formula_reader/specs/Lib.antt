@@ -1,7 +1,6 @@
 pub mod Input
 pub mod Faults
 pub mod Reads
-pub mod Heads
-pub mod Compared
-pub mod Joints
+pub mod Scopes
+pub mod Kinds
 pub mod Refusals

@@ -1,40 +1,31 @@
 // Reads atoms.
-ghost use Rattle.std.specs.Prelude.{◌≡◌, ◌≤◌, ◌<◌, ◌||◌, suc, false, true, IsTrue, IfOk, OnOk};
+ghost use Rattle.std.specs.Prelude.{◌≡◌, ◌≤◌, ◌||◌, false, true, IsTrue, MatchResult};
 ghost use Rattle.tree_model.specs.Signatures.{Signature as Entries};
 ghost use Rattle.formula_ast.specs.declared.token.TokenKind.TheVariants as k;
-ghost use Rattle.formula_grammar.specs.Grammar as g;
+ghost use Rattle.formula_grammar.specs.Words.{truth_kind};
 ghost use Rattle.formula_grammar.specs.Machine as m;
-ghost use Rattle.formula_grammar.specs.Lawful.{is_bound};
-ghost use Rattle.formula_grammar.specs.Meaning.{variables_in};
-ghost use Rattle.formula_reader.specs.Input.{left_of, starts, place_of, texts_of};
-ghost use Rattle.formula_reader.specs.Faults.{FaultsAs, KeepsNames};
-ghost use Rattle.formula_reader.specs.Reads.{Reads, ReadsAs, IsParsed};
-ghost use Rattle.formula_reader.specs.Compared.{IsComparison, compared_variables, compared_bound};
-ghost use Rattle.formula_ast.specs.Forms.{form_of};
+ghost use Rattle.formula_reader.specs.Input.{left_of, starts, place_of};
+ghost use Rattle.formula_reader.specs.declared.place.Place.{Place as PlaceRead};
+ghost use Rattle.formula_reader.specs.Faults.{RefusesAt};
+ghost use Rattle.formula_reader.specs.Reads.{TakesParen, ParsesOperand, ParsesComparison};
 
-use crate::ReadError;
 use crate::checks::Head;
-use crate::parsed::{Comparison, compared};
+use crate::parsed::{Comparer, compared};
 use crate::place::Place;
 use crate::reader::Reader;
-use crate::words::place_in;
+use crate::words::{place_in, symbol_of};
+use crate::{ReadError, checks};
 use formula_ast::{Formula, Term};
 use formula_grammar::FaultKind;
 use formula_tokens::TokenKind;
 use signature::Signature;
 use std::alloc::Global;
-use tree_model::Symbol;
 
 impl<'a> Reader<'a> {
     // Takes the parenthesis behind `finite` or `win`.
-    fn opening<'s>(&mut self, place: Place<'s, 'a>) -> Result<Place<'s, 'a>, ReadError>
+    fn opening(&mut self, place: Place) -> Result<Place, ReadError>
         requires { place.depth ≤ 200 }
-        ensures faults { (σ : Entries) → FaultsAs (m.opening (suc place.entry.depth)) result σ self.old self.new }
-        ensures reads { OnOk result (Reads (g.mark k.LeftParen) self.old self.new) }
-        ensures inner { IfOk result (λ inner. (place_of inner ≡ m.deeper (place_of place.entry)) × (inner.depth ≤ 200)) }
-        ensures keeps { OnOk result (KeepsNames self.old self.new) }
-        ensures bytes { OnOk result (self.new.bytes ≡ self.old.bytes) }
-        ensures on { OnOk result (self.old.at < self.new.at) }
+        ensures { (σ : Entries) → MatchResult result (λ inner. TakesParen place σ self.old self.new inner) (λ e. RefusesAt (m.opening_paren (place_of self.old place)) σ self.old e) }
     {
         if self.sees(TokenKind::LeftParen) {
             self.open(TokenKind::LeftParen, place)
@@ -48,14 +39,11 @@ impl<'a> Reader<'a> {
         &mut self,
         alloc: Global,
         signature: &Signature,
-        place: Place<'_, 'a>,
+        place: Place,
     ) -> Result<Formula, ReadError>
         requires depth { place.depth ≤ 200 }
         requires starts { IsTrue (starts k.Finite (left_of self.old)) }
-        ensures faults { FaultsAs (m.unary (place_of place.entry)) result signature.now self.old self.new }
-        ensures reads { IfOk result (λ p. ReadsAs g.unary variables_in (is_bound (texts_of place.entry.bound.now)) (λ names w q. IsParsed signature.now names w q) self.old self.new p) }
-        ensures bytes { OnOk result (self.new.bytes ≡ self.old.bytes) }
-        ensures on { OnOk result (self.old.at ≤ self.new.at) }
+        ensures { ParsesOperand 5 place result signature.now self.old self.new }
     {
         self.take(TokenKind::Finite, None)?;
         let inner = self.opening(place)?;
@@ -69,20 +57,17 @@ impl<'a> Reader<'a> {
         &mut self,
         alloc: Global,
         signature: &Signature,
-        place: Place<'_, 'a>,
+        place: Place,
     ) -> Result<Formula, ReadError>
         requires depth { place.depth ≤ 200 }
         requires starts { IsTrue (starts k.Win (left_of self.old)) }
-        ensures faults { FaultsAs (m.unary (place_of place.entry)) result signature.now self.old self.new }
-        ensures reads { IfOk result (λ p. ReadsAs g.unary variables_in (is_bound (texts_of place.entry.bound.now)) (λ names w q. IsParsed signature.now names w q) self.old self.new p) }
-        ensures bytes { OnOk result (self.new.bytes ≡ self.old.bytes) }
-        ensures on { OnOk result (self.old.at ≤ self.new.at) }
+        ensures { ParsesOperand 5 place result signature.now self.old self.new }
     {
         self.take(TokenKind::Win, None)?;
         let inner = self.opening(place)?;
         let predicate = self.game(signature)?;
         self.expect(TokenKind::Comma)?;
-        let moves = self.moves(signature)?;
+        let moves = self.moves()?;
         self.expect(TokenKind::Comma)?;
         let term = self.term(alloc, signature, inner)?;
         self.expect(TokenKind::RightParen)?;
@@ -94,20 +79,17 @@ impl<'a> Reader<'a> {
         &mut self,
         alloc: Global,
         signature: &Signature,
-        place: Place<'_, 'a>,
-    ) -> Result<Comparison, ReadError>
-        requires depth { place.depth ≤ 200 }
-        ensures faults { FaultsAs (m.comparison (place_of place.entry)) result signature.now self.old self.new }
-        ensures reads { IfOk result (λ c. ReadsAs g.comparison compared_variables (compared_bound (texts_of place.entry.bound.now)) (λ names w d. IsComparison signature.now names w d) self.old self.new c) }
-        ensures bytes { OnOk result (self.new.bytes ≡ self.old.bytes) }
-        ensures on { OnOk result (self.old.at ≤ self.new.at) }
+        place: Place,
+    ) -> Result<(Comparer, Term), ReadError>
+        requires { place.depth ≤ 200 }
+        ensures { ParsesComparison place result signature.now self.old self.new }
     {
         if self.sees(TokenKind::Equal) {
             self.take(TokenKind::Equal, None)?;
-            Ok(Comparison::Equals(self.term(alloc, signature, place)?))
+            Ok((Comparer::Equals, self.term(alloc, signature, place)?))
         } else if self.sees(TokenKind::Differ) {
             self.take(TokenKind::Differ, None)?;
-            Ok(Comparison::Differs(self.term(alloc, signature, place)?))
+            Ok((Comparer::Differs, self.term(alloc, signature, place)?))
         } else {
             Err(self.fault(FaultKind::Syntax))
         }
@@ -125,27 +107,24 @@ impl<'a> Reader<'a> {
         &mut self,
         alloc: Global,
         signature: &Signature,
-        place: Place<'_, 'a>,
+        place: Place,
     ) -> Result<Formula, ReadError>
         requires depth { place.depth ≤ 200 }
         requires starts { IsTrue (starts k.Name (left_of self.old)) }
-        ensures faults { FaultsAs (m.unary (place_of place.entry)) result signature.now self.old self.new }
-        ensures reads { IfOk result (λ p. ReadsAs g.unary variables_in (is_bound (texts_of place.entry.bound.now)) (λ names w q. IsParsed signature.now names w q) self.old self.new p) }
-        ensures bytes { OnOk result (self.new.bytes ≡ self.old.bytes) }
-        ensures on { OnOk result (self.old.at ≤ self.new.at) }
+        ensures { ParsesOperand 5 place result signature.now self.old self.new }
     {
-        let name = self.atom_head(signature)?;
-        let arguments = self.arguments(alloc, signature, Head::Name(name), place)?;
-        let number = place_in(signature, name);
+        let name = self.text(TokenKind::Name);
+        self.take(TokenKind::Name, checks::begins_atom(signature, name))?;
+        let head = Head::Named(name);
+        let arguments = self.arguments(alloc, signature, head, place)?;
         if self.sees_comparison() {
-            let wrong = self.check_compares(signature, name);
-            self.complain(wrong);
-            let left = Term::App(Symbol::Named(number), arguments);
-            Ok(compared(left, self.comparison(alloc, signature, place)?))
+            self.complain(checks::compares(signature, name));
+            let (comparer, right) = self.comparison(alloc, signature, place)?;
+            let left = Term::App(symbol_of(signature, head), arguments);
+            Ok(compared(left, comparer, right))
         } else {
-            let wrong = self.check_stands_alone(signature, name);
-            self.complain(wrong);
-            Ok(Formula::Call(number, arguments))
+            self.complain(checks::stands_alone(signature, name));
+            Ok(Formula::Call(place_in(signature, name), arguments))
         }
     }
 
@@ -154,17 +133,15 @@ impl<'a> Reader<'a> {
         &mut self,
         alloc: Global,
         signature: &Signature,
-        place: Place<'_, 'a>,
+        place: Place,
     ) -> Result<Formula, ReadError>
         requires depth { place.depth ≤ 200 }
         requires starts { IsTrue (starts k.Variable (left_of self.old)) }
-        ensures faults { FaultsAs (m.unary (place_of place.entry)) result signature.now self.old self.new }
-        ensures reads { IfOk result (λ p. ReadsAs g.unary variables_in (is_bound (texts_of place.entry.bound.now)) (λ names w q. IsParsed signature.now names w q) self.old self.new p) }
-        ensures bytes { OnOk result (self.new.bytes ≡ self.old.bytes) }
-        ensures on { OnOk result (self.old.at ≤ self.new.at) }
+        ensures { ParsesOperand 5 place result signature.now self.old self.new }
     {
-        let left = Term::Var(self.variable(alloc, signature, place)?);
-        Ok(compared(left, self.comparison(alloc, signature, place)?))
+        let left = Term::Var(self.variable(alloc, place)?);
+        let (comparer, right) = self.comparison(alloc, signature, place)?;
+        Ok(compared(left, comparer, right))
     }
 
     // A comparison that begins with a further symbol.
@@ -172,19 +149,31 @@ impl<'a> Reader<'a> {
         &mut self,
         alloc: Global,
         signature: &Signature,
-        place: Place<'_, 'a>,
+        place: Place,
     ) -> Result<Formula, ReadError>
         requires depth { place.depth ≤ 200 }
         requires starts { IsTrue (starts k.Further (left_of self.old)) }
-        ensures faults { FaultsAs (m.unary (place_of place.entry)) result signature.now self.old self.new }
-        ensures reads { IfOk result (λ p. ReadsAs g.unary variables_in (is_bound (texts_of place.entry.bound.now)) (λ names w q. IsParsed signature.now names w q) self.old self.new p) }
-        ensures bytes { OnOk result (self.new.bytes ≡ self.old.bytes) }
-        ensures on { OnOk result (self.old.at ≤ self.new.at) }
+        ensures { ParsesOperand 5 place result signature.now self.old self.new }
     {
-        let symbol = Symbol::Further(self.further(signature)?);
-        let arguments = self.arguments(alloc, signature, Head::Further, place)?;
-        let left = Term::App(symbol, arguments);
-        Ok(compared(left, self.comparison(alloc, signature, place)?))
+        let head = Head::Further(self.text(TokenKind::Further));
+        self.take(TokenKind::Further, checks::heads(signature, head))?;
+        let left = self.headed(alloc, signature, head, place)?;
+        let (comparer, right) = self.comparison(alloc, signature, place)?;
+        Ok(compared(left, comparer, right))
+    }
+
+    // `true` or `false`.
+    fn truth(&mut self, kind: TokenKind, value: bool) -> Result<Formula, ReadError>
+        requires kind { kind ≡ truth_kind value }
+        requires starts { IsTrue (starts kind (left_of self.old)) }
+        ensures { (σ : Entries) (place : PlaceRead) → ParsesOperand 5 place result σ self.old self.new }
+    {
+        self.take(kind, None)?;
+        if value {
+            Ok(Formula::True)
+        } else {
+            Ok(Formula::False)
+        }
     }
 
     // An atom.
@@ -192,24 +181,19 @@ impl<'a> Reader<'a> {
         &mut self,
         alloc: Global,
         signature: &Signature,
-        place: Place<'_, 'a>,
+        place: Place,
     ) -> Result<Formula, ReadError>
         requires depth { place.depth ≤ 200 }
         requires no_tilde { starts k.Tilde (left_of self.old) ≡ false }
         requires no_exists { starts k.«Exists» (left_of self.old) ≡ false }
         requires no_forall { starts k.Forall (left_of self.old) ≡ false }
         requires no_parenthesis { starts k.LeftParen (left_of self.old) ≡ false }
-        ensures faults { FaultsAs (m.unary (place_of place.entry)) result signature.now self.old self.new }
-        ensures reads { IfOk result (λ p. ReadsAs g.unary variables_in (is_bound (texts_of place.entry.bound.now)) (λ names w q. IsParsed signature.now names w q) self.old self.new p) }
-        ensures bytes { OnOk result (self.new.bytes ≡ self.old.bytes) }
-        ensures on { OnOk result (self.old.at ≤ self.new.at) }
+        ensures { ParsesOperand 5 place result signature.now self.old self.new }
     {
         if self.sees(TokenKind::True) {
-            self.take(TokenKind::True, None)?;
-            Ok(Formula::True)
+            self.truth(TokenKind::True, true)
         } else if self.sees(TokenKind::False) {
-            self.take(TokenKind::False, None)?;
-            Ok(Formula::False)
+            self.truth(TokenKind::False, false)
         } else if self.sees(TokenKind::Finite) {
             self.finiteness(alloc, signature, place)
         } else if self.sees(TokenKind::Win) {

@@ -1,13 +1,13 @@
 // What is wrong with a token, by what is declared and by the limits.
-ghost use Rattle.std.specs.Prelude.{◌≡◌, ◌<◌, [], ◌∷◌, nat_lt, MatchOption};
+ghost use Rattle.std.specs.Prelude.{◌≡◌, ◌<◌, ℕ, List, [], ◌∷◌, length, nat_lt, MatchOption};
+ghost use Rattle.tree_model.specs.Signatures.{Signature as Entries};
 ghost use Rattle.formula_grammar.specs.Checks as g;
-ghost use Rattle.formula_grammar.specs.Checks.{check, declared, arity_in, value_of, index_of};
+ghost use Rattle.formula_grammar.specs.Checks.{Environment, check, declared, arity_in, is_among, value_of, index_of};
+ghost use Rattle.formula_grammar.specs.Written.{Text};
 ghost use Rattle.formula_grammar.specs.Machine as m;
-ghost use Rattle.formula_reader.specs.Input.{environment, place_of, texts_of};
-ghost use Rattle.formula_reader.specs.Heads.{head_of};
+ghost use Rattle.formula_reader.specs.Input.{environment};
+ghost use Rattle.formula_reader.specs.Kinds.{head_of};
 
-use crate::place::Place;
-use crate::reader::Reader;
 use formula_grammar::FaultKind;
 use signature::{Kind, Signature};
 
@@ -25,14 +25,16 @@ const MOST_JOINTS: usize = 1000;
 
 const MOST_MOVES: u64 = 1000;
 
-/// What has arguments: a name, or a further symbol.
+const MOST_NESTINGS: usize = 200;
+
+/// What has arguments: a name, or a further symbol, with its text.
 #[derive(Clone, Copy)]
 pub(crate) enum Head<'a> {
-    Name(&'a str),
-    Further,
+    Named(&'a str),
+    Further(&'a str),
 }
 
-pub(crate) fn when(wrong: bool, kind: FaultKind) -> Option<FaultKind>
+fn when(wrong: bool, kind: FaultKind) -> Option<FaultKind>
     ensures { result ≡ g.first_of ((wrong, kind) ∷ []) }
 {
     if wrong { Some(kind) } else { None }
@@ -71,18 +73,6 @@ fn is_long(text: &str) -> bool
     ensures { result ≡ g.is_long text.now }
 {
     text.len() > MOST_NAME_BYTES
-}
-
-// Whether a text is one of these.
-pub(crate) fn is_among(text: &str, texts: &[&str]) -> bool
-    ensures { result ≡ g.is_among text.now (texts_of texts.now) }
-{
-    for other in texts {
-        if *other == text {
-            return true;
-        }
-    }
-    false
 }
 
 // What a name is declared as, if it is.
@@ -150,206 +140,166 @@ fn is_above(digits: &str, most: u64) -> bool
     }
 }
 
-impl<'a> Reader<'a> {
-    pub(crate) fn check_declares(&self, signature: &Signature, name: &str) -> Option<FaultKind>
-        ensures { result ≡ check (environment signature.now self.now) (m.declares name.now) }
-    {
-        if declared(signature, name).is_some() {
-            return Some(FaultKind::Twice);
-        }
-        let many = count_of(Kind::Symbol, signature) >= MOST_SYMBOLS;
-        when(is_long(name) || many, FaultKind::Limit)
-    }
+// What is wrong with a word, by what it is where it stands.
 
-    pub(crate) fn check_arity(
-        &self,
-        signature: &Signature,
-        name: &str,
-        digits: &str,
-    ) -> Option<FaultKind>
-        ensures { result ≡ check (environment signature.now self.now) (m.has_arity name.now digits.now) }
-    {
-        when(is_above(digits, MOST_ARGUMENTS as u64), FaultKind::Limit)
-    }
+pub(crate) fn nests(depth: usize) -> Option<FaultKind>
+    ensures { (E : Environment) → result ≡ check E (m.opens depth) }
+{
+    when(depth > MOST_NESTINGS, FaultKind::Limit)
+}
 
-    pub(crate) fn check_declares_predicate(
-        &self,
-        signature: &Signature,
-        name: &str,
-    ) -> Option<FaultKind>
-        ensures { result ≡ check (environment signature.now self.now) (m.declares_predicate name.now) }
-    {
-        if declared(signature, name).is_some() {
-            return Some(FaultKind::Twice);
-        }
-        let many = count_of(Kind::Pred, signature) >= MOST_PREDICATES;
-        when(is_long(name) || many, FaultKind::Limit)
+pub(crate) fn declares(signature: &Signature, name: &str) -> Option<FaultKind>
+    ensures { (n : ℕ) → result ≡ check (environment signature.now n) (m.declares name.now) }
+{
+    if declared(signature, name).is_some() {
+        return Some(FaultKind::Twice);
     }
+    let many = count_of(Kind::Symbol, signature) >= MOST_SYMBOLS;
+    when(is_long(name) || many, FaultKind::Limit)
+}
 
-    pub(crate) fn check_parameter(
-        &self,
-        signature: &Signature,
-        name: &str,
-        before: &[&str],
-    ) -> Option<FaultKind>
-        ensures { result ≡ check (environment signature.now self.now) (m.has_parameter name.now (texts_of before.now)) }
-    {
-        if is_among(name, before) {
-            return Some(FaultKind::Twice);
-        }
-        when(
-            is_long(name) || before.len() >= MOST_PARAMETERS,
-            FaultKind::Limit,
-        )
+pub(crate) fn has_arity(digits: &str) -> Option<FaultKind>
+    ensures { (E : Environment) (name : Text) → result ≡ check E (m.has_arity name digits.now) }
+{
+    when(is_above(digits, MOST_ARGUMENTS as u64), FaultKind::Limit)
+}
+
+pub(crate) fn declares_predicate(signature: &Signature, name: &str) -> Option<FaultKind>
+    ensures { (n : ℕ) → result ≡ check (environment signature.now n) (m.declares_predicate name.now) }
+{
+    if declared(signature, name).is_some() {
+        return Some(FaultKind::Twice);
     }
+    let many = count_of(Kind::Pred, signature) >= MOST_PREDICATES;
+    when(is_long(name) || many, FaultKind::Limit)
+}
 
-    pub(crate) fn check_joins(&self, signature: &Signature) -> Option<FaultKind>
-        ensures { result ≡ check (environment signature.now self.now) m.joins }
-    {
-        when(self.joints >= MOST_JOINTS, FaultKind::Limit)
+// A parameter behind so many others, and whether it is one of them.
+pub(crate) fn has_parameter(name: &str, before: usize, twice: bool) -> Option<FaultKind>
+    ensures { (E : Environment) (xs : List Text) → before ≡ length xs → twice ≡ is_among name.now xs → result ≡ check E (m.has_parameter name.now xs) }
+{
+    if twice {
+        return Some(FaultKind::Twice);
     }
+    when(is_long(name) || before >= MOST_PARAMETERS, FaultKind::Limit)
+}
 
-    pub(crate) fn check_binds(&self, signature: &Signature, name: &str) -> Option<FaultKind>
-        ensures { result ≡ check (environment signature.now self.now) (m.binds name.now) }
-    {
-        when(
-            is_long(name) || self.joints >= MOST_JOINTS,
-            FaultKind::Limit,
-        )
+pub(crate) fn joins(joints: usize) -> Option<FaultKind>
+    ensures { (σ : Entries) → result ≡ check (environment σ joints) m.joins }
+{
+    when(joints >= MOST_JOINTS, FaultKind::Limit)
+}
+
+pub(crate) fn binds(name: &str, joints: usize) -> Option<FaultKind>
+    ensures { (σ : Entries) → result ≡ check (environment σ joints) (m.binds name.now) }
+{
+    when(is_long(name) || joints >= MOST_JOINTS, FaultKind::Limit)
+}
+
+// A variable, and whether it is bound.
+pub(crate) fn stands(name: &str, closed: bool, bound: bool) -> Option<FaultKind>
+    ensures { (E : Environment) (c : m.Place) → closed ≡ c.closed → bound ≡ is_among name.now c.bound → result ≡ check E (m.stands name.now c) }
+{
+    if closed && !bound {
+        return Some(FaultKind::Loose);
     }
+    when(is_long(name), FaultKind::Limit)
+}
 
-    pub(crate) fn check_stands(
-        &self,
-        signature: &Signature,
-        name: &str,
-        place: Place<'_, '_>,
-        bound: bool,
-    ) -> Option<FaultKind>
-        requires { bound ≡ g.is_among name.now (texts_of place.bound.now) }
-        ensures { result ≡ check (environment signature.now self.now) (m.stands name.now (place_of place.entry)) }
-    {
-        if place.closed && !bound {
-            return Some(FaultKind::Loose);
-        }
-        when(is_long(name), FaultKind::Limit)
-    }
-
-    pub(crate) fn check_heads_term(&self, signature: &Signature, name: &str) -> Option<FaultKind>
-        ensures { result ≡ check (environment signature.now self.now) (m.heads_term name.now) }
-    {
-        match declared(signature, name) {
+pub(crate) fn heads(signature: &Signature, head: Head<'_>) -> Option<FaultKind>
+    ensures { (n : ℕ) → result ≡ check (environment signature.now n) (m.heads (head_of head.entry)) }
+{
+    match head {
+        Head::Named(name) => match declared(signature, name) {
             None => Some(FaultKind::Unknown),
             Some((Kind::Pred, _)) => Some(FaultKind::Sort),
             Some((Kind::Symbol, _)) => when(is_long(name), FaultKind::Limit),
-        }
+        },
+        Head::Further(text) => when(index_of(text).is_none(), FaultKind::Limit),
     }
+}
 
-    pub(crate) fn check_begins_atom(&self, signature: &Signature, name: &str) -> Option<FaultKind>
-        ensures { result ≡ check (environment signature.now self.now) (m.begins_atom name.now) }
-    {
-        if declared(signature, name).is_none() {
-            return Some(FaultKind::Unknown);
-        }
-        when(is_long(name), FaultKind::Limit)
+pub(crate) fn begins_atom(signature: &Signature, name: &str) -> Option<FaultKind>
+    ensures { (n : ℕ) → result ≡ check (environment signature.now n) (m.begins_atom name.now) }
+{
+    if declared(signature, name).is_none() {
+        return Some(FaultKind::Unknown);
     }
+    when(is_long(name), FaultKind::Limit)
+}
 
-    pub(crate) fn check_further(&self, signature: &Signature, text: &str) -> Option<FaultKind>
-        ensures { result ≡ check (environment signature.now self.now) (m.is_further text.now) }
-    {
-        when(index_of(text).is_none(), FaultKind::Limit)
+pub(crate) fn opens_arguments(signature: &Signature, head: Head<'_>) -> Option<FaultKind>
+    ensures { (n : ℕ) → result ≡ check (environment signature.now n) (m.opens_arguments (head_of head.entry)) }
+{
+    match head {
+        Head::Named(name) => when(arity_in(signature, name) == 0, FaultKind::Arity),
+        Head::Further(_) => None,
     }
+}
 
-    pub(crate) fn check_opens_arguments(
-        &self,
-        signature: &Signature,
-        head: Head<'_>,
-    ) -> Option<FaultKind>
-        ensures { result ≡ check (environment signature.now self.now) (m.opens_arguments (head_of head.entry)) }
-    {
-        match head {
-            Head::Name(name) => when(arity_in(signature, name) == 0, FaultKind::Arity),
-            Head::Further => None,
-        }
+pub(crate) fn no_arguments(signature: &Signature, head: Head<'_>) -> Option<FaultKind>
+    ensures { (n : ℕ) → result ≡ check (environment signature.now n) (m.no_arguments (head_of head.entry)) }
+{
+    match head {
+        Head::Named(name) => when(arity_in(signature, name) > 0, FaultKind::Arity),
+        Head::Further(_) => None,
     }
+}
 
-    pub(crate) fn check_no_arguments(
-        &self,
-        signature: &Signature,
-        head: Head<'_>,
-    ) -> Option<FaultKind>
-        ensures { result ≡ check (environment signature.now self.now) (m.no_arguments (head_of head.entry)) }
-    {
-        match head {
-            Head::Name(name) => when(arity_in(signature, name) > 0, FaultKind::Arity),
-            Head::Further => None,
-        }
+pub(crate) fn separates(signature: &Signature, head: Head<'_>, count: usize) -> Option<FaultKind>
+    ensures { (n : ℕ) → result ≡ check (environment signature.now n) (m.separates (head_of head.entry) count) }
+{
+    match head {
+        Head::Named(name) => when(arity_in(signature, name) <= count, FaultKind::Arity),
+        Head::Further(_) => when(count >= MOST_ARGUMENTS, FaultKind::Limit),
     }
+}
 
-    pub(crate) fn check_separates(
-        &self,
-        signature: &Signature,
-        head: Head<'_>,
-        count: usize,
-    ) -> Option<FaultKind>
-        ensures { result ≡ check (environment signature.now self.now) (m.separates (head_of head.entry) count) }
-    {
-        match head {
-            Head::Name(name) => when(arity_in(signature, name) <= count, FaultKind::Arity),
-            Head::Further => when(count >= MOST_ARGUMENTS, FaultKind::Limit),
-        }
+pub(crate) fn closes(signature: &Signature, head: Head<'_>, count: usize) -> Option<FaultKind>
+    ensures { (n : ℕ) → result ≡ check (environment signature.now n) (m.closes (head_of head.entry) count) }
+{
+    match head {
+        Head::Named(name) => when(count < arity_in(signature, name), FaultKind::Arity),
+        Head::Further(_) => None,
     }
+}
 
-    pub(crate) fn check_closes(
-        &self,
-        signature: &Signature,
-        head: Head<'_>,
-        count: usize,
-    ) -> Option<FaultKind>
-        ensures { result ≡ check (environment signature.now self.now) (m.closes (head_of head.entry) count) }
-    {
-        match head {
-            Head::Name(name) => when(count < arity_in(signature, name), FaultKind::Arity),
-            Head::Further => None,
-        }
+pub(crate) fn compares(signature: &Signature, name: &str) -> Option<FaultKind>
+    ensures { (n : ℕ) → result ≡ check (environment signature.now n) (m.compares name.now) }
+{
+    match declared(signature, name) {
+        Some((Kind::Pred, _)) => Some(FaultKind::Sort),
+        _ => None,
     }
+}
 
-    pub(crate) fn check_compares(&self, signature: &Signature, name: &str) -> Option<FaultKind>
-        ensures { result ≡ check (environment signature.now self.now) (m.compares name.now) }
-    {
-        match declared(signature, name) {
-            Some((Kind::Pred, _)) => Some(FaultKind::Sort),
-            _ => None,
-        }
+pub(crate) fn stands_alone(signature: &Signature, name: &str) -> Option<FaultKind>
+    ensures { (n : ℕ) → result ≡ check (environment signature.now n) (m.stands_alone name.now) }
+{
+    match declared(signature, name) {
+        Some((Kind::Symbol, _)) => Some(FaultKind::Sort),
+        _ => None,
     }
+}
 
-    pub(crate) fn check_stands_alone(&self, signature: &Signature, name: &str) -> Option<FaultKind>
-        ensures { result ≡ check (environment signature.now self.now) (m.stands_alone name.now) }
-    {
-        match declared(signature, name) {
-            Some((Kind::Symbol, _)) => Some(FaultKind::Sort),
-            _ => None,
-        }
-    }
-
-    pub(crate) fn check_plays(&self, signature: &Signature, name: &str) -> Option<FaultKind>
-        ensures { result ≡ check (environment signature.now self.now) (m.plays name.now) }
-    {
-        match declared(signature, name) {
-            None => Some(FaultKind::Unknown),
-            Some((Kind::Pred, arity)) => {
-                if arity != 2 {
-                    Some(FaultKind::Arity)
-                } else {
-                    when(is_long(name), FaultKind::Limit)
-                }
+pub(crate) fn plays(signature: &Signature, name: &str) -> Option<FaultKind>
+    ensures { (n : ℕ) → result ≡ check (environment signature.now n) (m.plays name.now) }
+{
+    match declared(signature, name) {
+        None => Some(FaultKind::Unknown),
+        Some((Kind::Pred, arity)) => {
+            if arity != 2 {
+                Some(FaultKind::Arity)
+            } else {
+                when(is_long(name), FaultKind::Limit)
             }
-            Some((Kind::Symbol, _)) => Some(FaultKind::Sort),
         }
+        Some((Kind::Symbol, _)) => Some(FaultKind::Sort),
     }
+}
 
-    pub(crate) fn check_counts(&self, signature: &Signature, digits: &str) -> Option<FaultKind>
-        ensures { result ≡ check (environment signature.now self.now) (m.counts digits.now) }
-    {
-        when(is_above(digits, MOST_MOVES), FaultKind::Limit)
-    }
+pub(crate) fn counts(digits: &str) -> Option<FaultKind>
+    ensures { (E : Environment) → result ≡ check E (m.counts digits.now) }
+{
+    when(is_above(digits, MOST_MOVES), FaultKind::Limit)
 }

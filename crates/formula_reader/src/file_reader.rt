@@ -1,8 +1,10 @@
 // Reads whole texts.
 ghost use Rattle.std.specs.Prelude.{◌≡◌, Some, IfOk, IfErr};
-ghost use Rattle.formula_ast.specs.WellFormed.{IsWellFormed};
+ghost use Rattle.formula_ast.specs.WellFormed.{IsWellFormed, IsStatementOver};
 ghost use Rattle.formula_grammar.specs.FirstFault.{formula_fault};
-ghost use Rattle.formula_grammar.specs.Reading.{ReadsAs, ReadsAsFormula, IsFirstFault};
+ghost use Rattle.formula_grammar.specs.Reading.{ReadsAsFormula};
+ghost use Rattle.formula_grammar.specs.NotBuilt.{ReadsBuilt, IsFirstFault};
+ghost use Rattle.formula_grammar.specs.WellFormedLaws.{HasFewArguments};
 ghost use Rattle.formula_reader.specs.Refusals.{IsRefusedWith};
 
 use crate::ReadError;
@@ -20,7 +22,7 @@ pub const MOST_BYTES: usize = 1_048_576;
 /// Reads a file: declarations of symbols, definitions of predicates, and questions. What is not answered yet is refused as
 /// not built, at its first statement, behind every other fault.
 pub fn read_file(alloc: Global, bytes: &[u8]) -> Result<File, ReadError>
-    ensures file { IfOk result (λ file. ReadsAs bytes.now file) }
+    ensures file { IfOk result (λ file. ReadsBuilt bytes.now file) }
     ensures well_formed { IfOk result (λ file. IsWellFormed file) }
     ensures refused { IfErr result (λ error. IsRefusedWith error (λ fault. IsFirstFault bytes.now fault)) }
 {
@@ -50,6 +52,7 @@ pub fn read_file(alloc: Global, bytes: &[u8]) -> Result<File, ReadError>
 /// Reads one formula up to the end of the bytes, with the names of a signature declared.
 pub fn read_formula(alloc: Global, sig: &Signature, bytes: &[u8]) -> Result<Statement, ReadError>
     ensures formula { IfOk result (λ statement. ReadsAsFormula sig.now bytes.now statement) }
+    ensures well_formed { HasFewArguments sig.now → IfOk result (λ statement. IsStatementOver sig.now statement) }
     ensures refused { IfErr result (λ error. IsRefusedWith error (λ fault. formula_fault sig.now bytes.now ≡ Some fault)) }
 {
     if bytes.len() > MOST_BYTES {
@@ -58,10 +61,9 @@ pub fn read_formula(alloc: Global, sig: &Signature, bytes: &[u8]) -> Result<Stat
     let mut reader = Reader::new(alloc, bytes);
     let place = Place {
         depth: 0,
-        bound: &[],
         closed: false,
     };
-    let body = reader.formula(alloc, sig, place)?;
+    let body = reader.operand(alloc, sig, place, 1)?;
     reader.finish()?;
     let names = reader.into_names(alloc)?;
     Ok(Statement { names, body })

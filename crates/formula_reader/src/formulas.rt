@@ -1,113 +1,68 @@
-// Reads formulas, by recursive descent, from the weakest operator to the strongest.
-ghost use Rattle.std.specs.Prelude.{◌≡◌, ◌≤◌, ◌<◌, suc, false, true, IsTrue, IfOk, OnOk};
+// Reads formulas, by recursive descent.
+ghost use Rattle.std.specs.Prelude.{◌≡◌, ◌≤◌, IsTrue, MatchResult};
 ghost use Rattle.tree_model.specs.Signatures.{Signature as Entries};
 ghost use Rattle.formula_ast.specs.declared.token.TokenKind.TheVariants as k;
-ghost use Rattle.formula_grammar.specs.Grammar as g;
+ghost use Rattle.formula_grammar.specs.Words.{sign};
 ghost use Rattle.formula_grammar.specs.Machine as m;
-ghost use Rattle.formula_grammar.specs.Lawful.{is_bound};
-ghost use Rattle.formula_grammar.specs.Meaning.{variables_in};
-ghost use Rattle.formula_reader.specs.Input.{left_of, starts, place_of, texts_of};
-ghost use Rattle.formula_reader.specs.Faults.{FaultsAs};
-ghost use Rattle.formula_reader.specs.Reads.{ReadsAs, ReadsQuantified, IsParsed};
+ghost use Rattle.formula_reader.specs.Input.{left_of, starts, place_of};
+ghost use Rattle.formula_reader.specs.Kinds.{joint_of, quantifier_of};
+ghost use Rattle.formula_reader.specs.Faults.{RefusesAt};
+ghost use Rattle.formula_reader.specs.Reads.{ReadsSign, ParsesOperand, ParsesQuantified};
 
 use crate::ReadError;
-use crate::parsed::{Joint, existential, joined, negated, universal};
+use crate::parsed::{Joint, Quantifier, UNARY, behind, joined, negated};
 use crate::place::Place;
 use crate::reader::Reader;
 use formula_ast::Formula;
+use formula_grammar::FaultKind;
 use formula_tokens::TokenKind;
 use signature::Signature;
 use std::alloc::Global;
 
 impl<'a> Reader<'a> {
-    // A formula: one implication, or two that are joined by `<->`.
-    #[cycle(formulas)]
-    pub(crate) fn formula(
-        &mut self,
-        alloc: Global,
-        signature: &Signature,
-        place: Place<'_, 'a>,
-    ) -> Result<Formula, ReadError>
+    // Takes the sign of a joint, and tells where its right side stands.
+    fn join(&mut self, joint: Joint, place: Place) -> Result<Place, ReadError>
         requires depth { place.depth ≤ 200 }
-        ensures faults { FaultsAs (m.formula (place_of place.entry)) result signature.now self.old self.new }
-        ensures reads { IfOk result (λ p. ReadsAs g.formula variables_in (is_bound (texts_of place.entry.bound.now)) (λ names w q. IsParsed signature.now names w q) self.old self.new p) }
-        ensures bytes { OnOk result (self.new.bytes ≡ self.old.bytes) }
-        ensures on { OnOk result (self.old.at ≤ self.new.at) }
+        requires starts { IsTrue (starts (sign (joint_of joint)) (left_of self.old)) }
+        ensures { (σ : Entries) → MatchResult result (λ inner. ReadsSign (joint_of joint) place σ self.old self.new inner)
+            (λ e. RefusesAt (m.tail (joint_of joint) (place_of self.old place)) σ self.old e) }
     {
-        let left = self.implication(alloc, signature, place)?;
-        if !self.sees(TokenKind::DoubleArrow) {
-            return Ok(left);
+        let sign = joint.sign();
+        if joint.chains() {
+            self.count(sign)?;
+            return Ok(place);
         }
-        self.take(TokenKind::DoubleArrow, None)?;
-        let right = self.implication(alloc, signature, place)?;
-        joined(alloc, Joint::Iff, left, right)
+        if joint.nests() {
+            return self.open(sign, place);
+        }
+        self.take(sign, None)?;
+        Ok(place)
     }
 
-    // A disjunction, or one that implies another implication.
+    // A formula of at least this level: 1 for any formula, up to 5 for what nothing joins.
     #[cycle(formulas)]
-    fn implication(
+    pub(crate) fn operand(
         &mut self,
         alloc: Global,
         signature: &Signature,
-        place: Place<'_, 'a>,
+        place: Place,
+        level: usize,
     ) -> Result<Formula, ReadError>
         requires depth { place.depth ≤ 200 }
-        ensures faults { FaultsAs (m.implication (place_of place.entry)) result signature.now self.old self.new }
-        ensures reads { IfOk result (λ p. ReadsAs g.implication variables_in (is_bound (texts_of place.entry.bound.now)) (λ names w q. IsParsed signature.now names w q) self.old self.new p) }
-        ensures bytes { OnOk result (self.new.bytes ≡ self.old.bytes) }
-        ensures on { OnOk result (self.old.at ≤ self.new.at) }
+        requires level { (1 ≤ level) × (level ≤ 5) }
+        ensures { ParsesOperand level place result signature.now self.old self.new }
     {
-        let left = self.disjunction(alloc, signature, place)?;
-        if !self.sees(TokenKind::Arrow) {
-            return Ok(left);
-        }
-        let inner = self.open(TokenKind::Arrow, place)?;
-        let right = self.implication(alloc, signature, inner)?;
-        joined(alloc, Joint::Imp, left, right)
-    }
-
-    // Conjunctions that are joined by `|` from the left.
-    #[cycle(formulas)]
-    fn disjunction(
-        &mut self,
-        alloc: Global,
-        signature: &Signature,
-        place: Place<'_, 'a>,
-    ) -> Result<Formula, ReadError>
-        requires depth { place.depth ≤ 200 }
-        ensures faults { FaultsAs (m.disjunction (place_of place.entry)) result signature.now self.old self.new }
-        ensures reads { IfOk result (λ p. ReadsAs g.disjunction variables_in (is_bound (texts_of place.entry.bound.now)) (λ names w q. IsParsed signature.now names w q) self.old self.new p) }
-        ensures bytes { OnOk result (self.new.bytes ≡ self.old.bytes) }
-        ensures on { OnOk result (self.old.at ≤ self.new.at) }
-    {
-        let mut left = self.conjunction(alloc, signature, place)?;
-        'more: while self.sees(TokenKind::Bar) {
-            self.join(signature, TokenKind::Bar)?;
-            let right = self.conjunction(alloc, signature, place)?;
-            left = joined(alloc, Joint::Or, left, right)?;
-        }
-        Ok(left)
-    }
-
-    // Formulas of the strongest kind that are joined by `&` from the left.
-    #[cycle(formulas)]
-    fn conjunction(
-        &mut self,
-        alloc: Global,
-        signature: &Signature,
-        place: Place<'_, 'a>,
-    ) -> Result<Formula, ReadError>
-        requires depth { place.depth ≤ 200 }
-        ensures faults { FaultsAs (m.conjunction (place_of place.entry)) result signature.now self.old self.new }
-        ensures reads { IfOk result (λ p. ReadsAs g.conjunction variables_in (is_bound (texts_of place.entry.bound.now)) (λ names w q. IsParsed signature.now names w q) self.old self.new p) }
-        ensures bytes { OnOk result (self.new.bytes ≡ self.old.bytes) }
-        ensures on { OnOk result (self.old.at ≤ self.new.at) }
-    {
-        let mut left = self.unary(alloc, signature, place)?;
-        'more: while self.sees(TokenKind::Amp) {
-            self.join(signature, TokenKind::Amp)?;
-            let right = self.unary(alloc, signature, place)?;
-            left = joined(alloc, Joint::And, left, right)?;
+        let Some(joint) = Joint::at_level(level) else {
+            return self.unary(alloc, signature, place);
+        };
+        let mut left = self.operand(alloc, signature, place, level + 1)?;
+        'more: while self.sees(joint.sign()) {
+            let inner = self.join(joint, place)?;
+            let right = self.operand(alloc, signature, inner, joint.right())?;
+            left = joined(alloc, joint, left, right)?;
+            if !joint.chains() {
+                return Ok(left);
+            }
         }
         Ok(left)
     }
@@ -118,51 +73,28 @@ impl<'a> Reader<'a> {
         &mut self,
         alloc: Global,
         signature: &Signature,
-        place: Place<'_, 'a>,
+        place: Place,
     ) -> Result<Formula, ReadError>
-        requires depth { place.depth ≤ 200 }
-        ensures faults { FaultsAs (m.unary (place_of place.entry)) result signature.now self.old self.new }
-        ensures reads { IfOk result (λ p. ReadsAs g.unary variables_in (is_bound (texts_of place.entry.bound.now)) (λ names w q. IsParsed signature.now names w q) self.old self.new p) }
-        ensures bytes { OnOk result (self.new.bytes ≡ self.old.bytes) }
-        ensures on { OnOk result (self.old.at ≤ self.new.at) }
+        requires { place.depth ≤ 200 }
+        ensures { ParsesOperand 5 place result signature.now self.old self.new }
     {
         if self.sees(TokenKind::Tilde) {
             let inner = self.open(TokenKind::Tilde, place)?;
-            negated(alloc, self.unary(alloc, signature, inner)?)
+            negated(alloc, self.operand(alloc, signature, inner, UNARY)?)
         } else if self.sees(TokenKind::Exists) {
             let inner = self.open(TokenKind::Exists, place)?;
-            let (variables, body) = self.quantified(alloc, signature, inner)?;
-            existential(alloc, &variables, body)
+            self.quantified(alloc, signature, inner, Quantifier::Exists)
         } else if self.sees(TokenKind::Forall) {
             let inner = self.open(TokenKind::Forall, place)?;
-            let (variables, body) = self.quantified(alloc, signature, inner)?;
-            universal(alloc, &variables, body)
+            self.quantified(alloc, signature, inner, Quantifier::Forall)
         } else if self.sees(TokenKind::LeftParen) {
-            self.grouped(alloc, signature, place)
+            let inner = self.open(TokenKind::LeftParen, place)?;
+            let formula = self.operand(alloc, signature, inner, 1)?;
+            self.expect(TokenKind::RightParen)?;
+            Ok(formula)
         } else {
             self.atom(alloc, signature, place)
         }
-    }
-
-    // A formula in parentheses.
-    #[cycle(formulas)]
-    fn grouped(
-        &mut self,
-        alloc: Global,
-        signature: &Signature,
-        place: Place<'_, 'a>,
-    ) -> Result<Formula, ReadError>
-        requires depth { place.depth ≤ 200 }
-        requires starts { IsTrue (starts k.LeftParen (left_of self.old)) }
-        ensures faults { FaultsAs (m.unary (place_of place.entry)) result signature.now self.old self.new }
-        ensures reads { IfOk result (λ p. ReadsAs g.unary variables_in (is_bound (texts_of place.entry.bound.now)) (λ names w q. IsParsed signature.now names w q) self.old self.new p) }
-        ensures bytes { OnOk result (self.new.bytes ≡ self.old.bytes) }
-        ensures on { OnOk result (self.old.at ≤ self.new.at) }
-    {
-        let inner = self.open(TokenKind::LeftParen, place)?;
-        let formula = self.formula(alloc, signature, inner)?;
-        self.expect(TokenKind::RightParen)?;
-        Ok(formula)
     }
 
     // The variables of a quantifier, and its body.
@@ -171,27 +103,27 @@ impl<'a> Reader<'a> {
         &mut self,
         alloc: Global,
         signature: &Signature,
-        place: Place<'_, 'a>,
-    ) -> Result<(Vec<usize>, Formula), ReadError>
-        requires depth { place.depth ≤ 200 }
-        ensures faults { FaultsAs (m.quantified (place_of place.entry)) result signature.now self.old self.new }
-        ensures reads { IfOk result (λ q. ReadsQuantified signature.now (texts_of place.entry.bound.now) self.old self.new q.0.items q.1) }
-        ensures bytes { OnOk result (self.new.bytes ≡ self.old.bytes) }
-        ensures on { OnOk result (self.old.at ≤ self.new.at) }
+        place: Place,
+        quantifier: Quantifier,
+    ) -> Result<Formula, ReadError>
+        requires { place.depth ≤ 200 }
+        ensures { ParsesQuantified (quantifier_of quantifier) place result signature.now self.old self.new }
     {
-        let mut bound = Vec::new(alloc);
-        bound.extend_from_slice(place.bound)?;
-        let mut variables = Vec::new(alloc);
-        variables.push(self.bind(alloc, signature, &mut bound)?)?;
-        'more: while self.sees(TokenKind::Variable) {
-            variables.push(self.bind(alloc, signature, &mut bound)?)?;
+        let outer = self.scope.depth();
+        if !self.sees(TokenKind::Variable) {
+            return Err(self.fault(FaultKind::Syntax));
         }
-        self.expect(TokenKind::Colon)?;
-        let inner = Place {
-            bound: &bound,
-            ..place
-        };
-        let body = self.unary(alloc, signature, inner)?;
-        Ok((variables, body))
+        self.bind(alloc)?;
+        'more: while self.sees(TokenKind::Variable) {
+            self.bind(alloc)?;
+        }
+        if !self.sees(TokenKind::Colon) {
+            return Err(self.fault(FaultKind::Syntax));
+        }
+        self.take(TokenKind::Colon, None)?;
+        let body = self.operand(alloc, signature, place, UNARY)?;
+        let formula = behind(alloc, quantifier, self.scope.bound_behind(outer), body)?;
+        self.scope.release(outer);
+        Ok(formula)
     }
 }

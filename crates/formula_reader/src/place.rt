@@ -1,9 +1,8 @@
 // Where a reader is in a formula.
 
-/// Within how many nestings it is, which variables are bound there, and whether no other variable may stand there.
+/// Within how many nestings it is, and whether a variable has to be bound there.
 #[derive(Clone, Copy)]
-pub(crate) struct Place<'s, 'a> {
+pub(crate) struct Place {
     pub(crate) depth: usize,
-    pub(crate) bound: &'s [&'a str],
     pub(crate) closed: bool,
 }

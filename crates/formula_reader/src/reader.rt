@@ -1,19 +1,17 @@
 // Reads token by token, and keeps what is wrong with the next one until it is taken.
-ghost use Rattle.std.specs.Prelude.{◌≡◌, ◌≤◌, ◌<◌, [], ◌∷◌, false, None, suc, nat_lt, length, slice_range, IsTrue, IfOk, IfErr, OnOk, MatchOption};
+ghost use Rattle.std.specs.Prelude.{◌≡◌, ◌≤◌, [], ◌∷◌, false, None, suc, nat_lt, length, slice_range, IsTrue, IfOk, IfErr, OnOk, MatchOption, MatchResult};
 ghost use Rattle.std.specs.Str.{IsAscii};
 ghost use Rattle.tree_model.specs.Signatures.{Signature as Entries};
 ghost use Rattle.formula_ast.specs.Tokens.{Stream, token};
 ghost use Rattle.formula_ast.specs.declared.token.Token.{Token};
-ghost use Rattle.formula_grammar.specs.Grammar as grammar;
+ghost use Rattle.formula_grammar.specs.Words.{has_text, mark};
 ghost use Rattle.formula_grammar.specs.Checks as g;
-ghost use Rattle.formula_grammar.specs.Checks.{check};
 ghost use Rattle.formula_grammar.specs.Machine as m;
 ghost use Rattle.formula_reader.specs.Input.{IsPlace, left_of, starts, text_ahead, environment, place_of};
-ghost use Rattle.formula_reader.specs.Faults.{fault_of, Faults, FaultsAs, at_next, Takes, KeepsNames, Stops};
-ghost use Rattle.formula_reader.specs.Reads.{Reads};
+ghost use Rattle.formula_reader.specs.Faults.{fault_of, Refuses, RefusesAt, at_next, Takes, TakesWord, KeepsNames, Stops};
 
 use crate::ReadError;
-use crate::checks::{sooner, when};
+use crate::checks::{nests, sooner};
 use crate::error::refused;
 use crate::place::Place;
 use crate::variables::Variables;
@@ -24,32 +22,31 @@ use std::alloc::Global;
 use std::marker::Model;
 use std::str;
 
-/// How many nestings may stand within one another.
-const MOST_NESTINGS: usize = 200;
-
 /// A text, and the offset behind the tokens that were taken.
 #[derive(Drop)]
 pub(crate) struct Reader<'a> {
     bytes: &'a [u8],
     at: usize,
+    // The next token, if one is left, or the offset of a byte that begins none.
+    next: Result<Option<Token>, usize>,
     // What is wrong with the next token, if the grammar allows it.
     pending: Option<FaultKind>,
     // How many `&`, `|` and variables of quantifiers the statement has so far.
     pub(crate) joints: usize,
-    // The names of the statement's variables so far, and whether one of them stands where nothing binds it.
-    pub(crate) names: Variables,
+    // The statement's variables so far, and whether one of them stands where nothing binds it.
+    pub(crate) scope: Variables,
     pub(crate) loose: bool,
 }
 
 impl<'a> Model for Reader<'a> {
     ghost use Rattle.std.specs.Prelude.{◌≤◌, length};
-    ghost use Rattle.formula_reader.specs.Input.{Input, IsPlace};
+    ghost use Rattle.formula_reader.specs.Input.{Input, IsPlace, IsNext};
 
     ghost Value = { Input };
 
-    ghost view = { λ r. record { bytes = r.bytes.now; at = r.at; pending = r.pending; joints = r.joints; names = r.names; loose = r.loose } };
+    ghost view = { λ r. record { bytes = r.bytes.now; at = r.at; pending = r.pending; joints = r.joints; scope = r.scope; loose = r.loose } };
 
-    ghost invariant = { λ r. (r.at ≤ length r.bytes.now) × (r.joints ≤ 1000) × IsPlace r.bytes.now r.at };
+    ghost invariant = { λ r. (r.joints ≤ 1000) × IsPlace r.bytes.now r.at × IsNext r.bytes.now r.at r.next };
 }
 
 // The text of a token.
@@ -66,14 +63,15 @@ fn text_of<'a>(bytes: &'a [u8], token: Token) -> &'a str
 
 impl<'a> Reader<'a> {
     pub(crate) fn new(alloc: Global, bytes: &'a [u8]) -> Reader<'a>
-        ensures { result ≡ record { bytes = bytes.now; at = 0; pending = None; joints = 0; names = []; loose = false } }
+        ensures { result ≡ record { bytes = bytes.now; at = 0; pending = None; joints = 0; scope = record { names = []; bound = [] }; loose = false } }
     {
         Reader {
             bytes,
             at: 0,
+            next: next_token(bytes, 0),
             pending: None,
             joints: 0,
-            names: Variables::new(alloc),
+            scope: Variables::new(alloc),
             loose: false,
         }
     }
@@ -82,7 +80,7 @@ impl<'a> Reader<'a> {
     pub(crate) fn sees(&self, kind: TokenKind) -> bool
         ensures { result ≡ starts kind (left_of self.now) }
     {
-        match next_token(self.bytes, self.at) {
+        match self.next {
             Ok(Some(token)) => token.kind == kind,
             _ => false,
         }
@@ -91,9 +89,9 @@ impl<'a> Reader<'a> {
     // The text of the next token, of this kind.
     pub(crate) fn text(&self, kind: TokenKind) -> &'a str
         requires { IsTrue (starts kind (left_of self.now)) }
-        ensures { result.now ≡ text_ahead self.now.bytes (left_of self.now) }
+        ensures { result.now ≡ text_ahead self.now }
     {
-        match next_token(self.bytes, self.at) {
+        match self.next {
             Ok(Some(token)) => text_of(self.bytes, token),
             _ => unreachable!(),
         }
@@ -103,7 +101,7 @@ impl<'a> Reader<'a> {
     pub(crate) fn fault(&self, kind: FaultKind) -> ReadError
         ensures { result ≡ ReadError.Refused (at_next kind (left_of self.now)) }
     {
-        match next_token(self.bytes, self.at) {
+        match self.next {
             Ok(Some(token)) => refused(token.from, kind),
             Ok(None) => refused(self.bytes.len(), FaultKind::Ended),
             Err(offset) => refused(offset, FaultKind::Byte),
@@ -119,15 +117,16 @@ impl<'a> Reader<'a> {
         requires { IsTrue (starts kind (left_of self.old)) }
         ensures takes { OnOk result (Takes wrong self.old self.new) }
         ensures keeps { OnOk result (KeepsNames self.old self.new) }
+        ensures joints { OnOk result (self.new.joints ≡ self.old.joints) }
         ensures stops { IfErr result (λ error. Stops wrong self.old error) }
-        ensures on { OnOk result (self.old.at < self.new.at) }
     {
         if let Some(found) = sooner(self.pending, wrong) {
             return Err(self.fault(found));
         }
-        match next_token(self.bytes, self.at) {
+        match self.next {
             Ok(Some(token)) => {
                 self.at = token.to;
+                self.next = next_token(self.bytes, token.to);
                 self.pending = None;
                 Ok(())
             }
@@ -142,14 +141,10 @@ impl<'a> Reader<'a> {
         self.pending = sooner(self.pending, wrong);
     }
 
-    // Takes a token of this kind.
+    // Takes a token of this kind, whose text does not count.
     pub(crate) fn expect(&mut self, kind: TokenKind) -> Result<(), ReadError>
-        ensures faults { (σ : Entries) → FaultsAs (m.mark kind) result σ self.old self.new }
-        ensures reads { OnOk result (Reads (grammar.mark kind) self.old self.new) }
-        ensures taken { OnOk result ((self.old.pending ≡ None) × (self.new.pending ≡ None) × (self.new.joints ≡ self.old.joints)) }
-        ensures keeps { OnOk result (KeepsNames self.old self.new) }
-        ensures bytes { OnOk result (self.new.bytes ≡ self.old.bytes) }
-        ensures on { OnOk result (self.old.at < self.new.at) }
+        requires { has_text kind ≡ false }
+        ensures { (σ : Entries) → MatchResult result (λ _. TakesWord (m.plain kind) (mark kind) σ self.old self.new) (λ e. RefusesAt (m.plain kind) σ self.old e) }
     {
         if self.sees(kind) {
             self.take(kind, None)
@@ -159,21 +154,18 @@ impl<'a> Reader<'a> {
     }
 
     // Takes a token that opens a nesting, and tells where the reader is then.
-    pub(crate) fn open<'s>(
-        &mut self,
-        kind: TokenKind,
-        place: Place<'s, 'a>,
-    ) -> Result<Place<'s, 'a>, ReadError>
+    pub(crate) fn open(&mut self, kind: TokenKind, place: Place) -> Result<Place, ReadError>
         requires starts { IsTrue (starts kind (left_of self.old)) }
         requires depth { place.depth ≤ 200 }
-        ensures takes { OnOk result (Takes (g.first_of ((nat_lt 200 (suc place.entry.depth), FaultKind.Limit) ∷ [])) self.old self.new) }
+        ensures takes { (E : g.Environment) → OnOk result (Takes (g.check E (m.opens (suc place.depth))) self.old self.new) }
         ensures keeps { OnOk result (KeepsNames self.old self.new) }
-        ensures inner { IfOk result (λ inner. (place_of inner ≡ m.deeper (place_of place.entry)) × (inner.depth ≤ 200)) }
-        ensures stops { IfErr result (λ error. Stops (g.first_of ((nat_lt 200 (suc place.entry.depth), FaultKind.Limit) ∷ [])) self.old error) }
-        ensures on { OnOk result (self.old.at < self.new.at) }
+        ensures joints { OnOk result (self.new.joints ≡ self.old.joints) }
+        ensures inner { IfOk result (λ inner. inner ≡ record place { depth = suc place.depth }) }
+        ensures depth { IfOk result (λ inner. inner.depth ≤ 200) }
+        ensures stops { (E : g.Environment) → IfErr result (λ error. Stops (g.check E (m.opens (suc place.depth))) self.old error) }
     {
         let depth = place.depth + 1;
-        self.take(kind, when(depth > MOST_NESTINGS, FaultKind::Limit))?;
+        self.take(kind, nests(depth))?;
         Ok(Place { depth, ..place })
     }
 
@@ -183,7 +175,7 @@ impl<'a> Reader<'a> {
             (λ offset. (t : Token) × (more : Stream) × (left_of self.now ≡ token t more) × (t.from ≡ offset)) }
         ensures place { IsPlace self.now.bytes self.now.at }
     {
-        match next_token(self.bytes, self.at) {
+        match self.next {
             Ok(Some(token)) => Some(token.from),
             _ => None,
         }
@@ -191,9 +183,9 @@ impl<'a> Reader<'a> {
 
     // Nothing is left, and nothing was wrong with that.
     pub(crate) fn finish(&self) -> Result<(), ReadError>
-        ensures { (σ : Entries) → Faults result (fault_of σ self.now []) None }
+        ensures { (σ : Entries) → MatchResult result (λ _. fault_of σ self.now [] ≡ None) (λ e. Refuses e (fault_of σ self.now [])) }
     {
-        match (next_token(self.bytes, self.at), self.pending) {
+        match (self.next, self.pending) {
             (Ok(None), None) => Ok(()),
             (Ok(None), Some(found)) => Err(refused(self.bytes.len(), found)),
             _ => Err(self.fault(FaultKind::Syntax)),
@@ -202,9 +194,9 @@ impl<'a> Reader<'a> {
 
     // The names of the variables that were read.
     pub(crate) fn into_names(self, alloc: Global) -> Result<Names, ReadError>
-        ensures names { IfOk result (λ names. names ≡ self.entry.names) }
+        ensures names { IfOk result (λ names. names ≡ self.entry.scope.names) }
         ensures no_memory { IfErr result (λ error. error ≡ ReadError.NoMemory) }
     {
-        self.names.into_names(alloc)
+        self.scope.into_names(alloc)
     }
 }

@@ -1,26 +1,20 @@
 // Reads terms, by recursive descent.
-ghost use Rattle.std.specs.Prelude.{◌≡◌, ◌≤◌, IfOk, OnOk};
-ghost use Rattle.formula_ast.specs.Terms.{list_of};
-ghost use Rattle.formula_grammar.specs.Grammar as g;
-ghost use Rattle.formula_grammar.specs.Machine as m;
-ghost use Rattle.formula_grammar.specs.Lawful.{has_bound, all_have_bound};
-ghost use Rattle.formula_grammar.specs.Meaning.{variables_of, all_variables_of, IsTerm, AreTerms};
-ghost use Rattle.formula_reader.specs.Input.{place_of};
-ghost use Rattle.formula_reader.specs.Heads.{head_of};
-ghost use Rattle.formula_reader.specs.Faults.{FaultsAs};
-ghost use Rattle.formula_reader.specs.Reads.{ReadsAs};
+ghost use Rattle.std.specs.Prelude.{◌≡◌, ◌≤◌};
+ghost use Rattle.formula_grammar.specs.Written.{Text, further};
+ghost use Rattle.formula_grammar.specs.Checks.{index_of};
+ghost use Rattle.formula_reader.specs.Kinds.{head_of};
+ghost use Rattle.formula_reader.specs.Reads.{ParsesTerm, ParsesArguments, ParsesHeaded};
 
-use crate::ReadError;
 use crate::checks::Head;
 use crate::place::Place;
 use crate::reader::Reader;
-use crate::words::place_in;
+use crate::words::symbol_of;
+use crate::{ReadError, checks};
 use formula_ast::{Term, Terms};
 use formula_grammar::FaultKind;
 use formula_tokens::TokenKind;
 use signature::Signature;
 use std::alloc::Global;
-use tree_model::Symbol;
 
 impl<'a> Reader<'a> {
     // A term.
@@ -29,28 +23,41 @@ impl<'a> Reader<'a> {
         &mut self,
         alloc: Global,
         signature: &Signature,
-        place: Place<'_, 'a>,
+        place: Place,
     ) -> Result<Term, ReadError>
         requires { place.depth ≤ 200 }
-        ensures faults { FaultsAs (m.term (place_of place.entry)) result signature.now self.old self.new }
-        ensures reads { IfOk result (λ t. ReadsAs g.term variables_of (has_bound (place_of place.entry).bound) (λ names w u. IsTerm signature.now names w u) self.old self.new t) }
-        ensures bytes { OnOk result (self.new.bytes ≡ self.old.bytes) }
-        ensures on { OnOk result (self.old.at ≤ self.new.at) }
+        ensures { ParsesTerm place result signature.now self.old self.new }
     {
         if self.sees(TokenKind::Variable) {
-            Ok(Term::Var(self.variable(alloc, signature, place)?))
+            Ok(Term::Var(self.variable(alloc, place)?))
         } else if self.sees(TokenKind::Name) {
-            let name = self.term_head(signature)?;
-            let arguments = self.arguments(alloc, signature, Head::Name(name), place)?;
-            let symbol = Symbol::Named(place_in(signature, name));
-            Ok(Term::App(symbol, arguments))
+            let head = Head::Named(self.text(TokenKind::Name));
+            self.take(TokenKind::Name, checks::heads(signature, head))?;
+            self.headed(alloc, signature, head, place)
         } else if self.sees(TokenKind::Further) {
-            let symbol = Symbol::Further(self.further(signature)?);
-            let arguments = self.arguments(alloc, signature, Head::Further, place)?;
-            Ok(Term::App(symbol, arguments))
+            let head = Head::Further(self.text(TokenKind::Further));
+            self.take(TokenKind::Further, checks::heads(signature, head))?;
+            self.headed(alloc, signature, head, place)
         } else {
             Err(self.fault(FaultKind::Syntax))
         }
+    }
+
+    // The arguments of a term, whose head was read.
+    #[cycle(terms)]
+    pub(crate) fn headed(
+        &mut self,
+        alloc: Global,
+        signature: &Signature,
+        head: Head<'a>,
+        place: Place,
+    ) -> Result<Term, ReadError>
+        requires depth { place.depth ≤ 200 }
+        requires small { (text : Text) → head_of head ≡ further text → index_of text ≤ 18446744073709551615 }
+        ensures { ParsesHeaded (head_of head.entry) place result signature.now self.old self.new }
+    {
+        let arguments = self.arguments(alloc, signature, head, place)?;
+        Ok(Term::App(symbol_of(signature, head), arguments))
     }
 
     // Nothing, or terms in parentheses.
@@ -60,31 +67,25 @@ impl<'a> Reader<'a> {
         alloc: Global,
         signature: &Signature,
         head: Head<'a>,
-        place: Place<'_, 'a>,
+        place: Place,
     ) -> Result<Terms, ReadError>
         requires { place.depth ≤ 200 }
-        ensures faults { FaultsAs (m.arguments (head_of head.entry) (place_of place.entry)) result signature.now self.old self.new }
-        ensures reads { IfOk result (λ ts. ReadsAs g.arguments all_variables_of (all_have_bound (place_of place.entry).bound) (λ names ws us. AreTerms signature.now names ws (list_of us)) self.old self.new ts) }
-        ensures bytes { OnOk result (self.new.bytes ≡ self.old.bytes) }
-        ensures on { OnOk result (self.old.at ≤ self.new.at) }
+        ensures { ParsesArguments (head_of head.entry) place result signature.now self.old self.new }
     {
         let mut found = Terms::new(alloc);
         if !self.sees(TokenKind::LeftParen) {
-            let wrong = self.check_no_arguments(signature, head);
-            self.complain(wrong);
+            self.complain(checks::no_arguments(signature, head));
             return Ok(found);
         }
-        let wrong = self.check_opens_arguments(signature, head);
-        self.complain(wrong);
+        self.complain(checks::opens_arguments(signature, head));
         let inner = self.open(TokenKind::LeftParen, place)?;
         found.push(self.term(alloc, signature, inner)?)?;
         'more: while self.sees(TokenKind::Comma) {
-            let wrong = self.check_separates(signature, head, found.len());
+            let wrong = checks::separates(signature, head, found.len());
             self.take(TokenKind::Comma, wrong)?;
             found.push(self.term(alloc, signature, inner)?)?;
         }
-        let wrong = self.check_closes(signature, head, found.len());
-        self.complain(wrong);
+        self.complain(checks::closes(signature, head, found.len()));
         self.expect(TokenKind::RightParen)?;
         Ok(found)
     }

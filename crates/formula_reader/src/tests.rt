@@ -235,7 +235,7 @@ fn a_formula_may_use_names_past_the_limits_of_files(rt: HostRuntime) -> Result<(
 }
 
 #[test]
-fn files_of_closed_questions_are_read(rt: HostRuntime) -> Result<(), Fail> {
+fn files_of_questions_are_read(rt: HostRuntime) -> Result<(), Fail> {
     for (text, file) in [
         ("", ""),
         (" \t\r\n% solve\n% é", ""),
@@ -250,6 +250,10 @@ fn files_of_closed_questions_are_read(rt: HostRuntime) -> Result<(), Fail> {
         (
             "solve ((true)). solve exists X: ~forall Y: (X != Y -> finite(X) | false <-> true).",
             "[] true[X Y ] exists 0 ~forall 1 ((0 != 1 -> (finite 0 | false)) <-> true)",
+        ),
+        (
+            "symbol f/00000000000000000000008. solve $0(X,X,X,X,X,X,X,X) = Y. solve exists X: X = Y.",
+            "Symbol f/8. [X Y ] $0(0, 0, 0, 0, 0, 0, 0, 0) = 1[X Y ] exists 0 0 = 1",
         ),
     ] {
         let read = file_read_as(rt.alloc(), text)?;
@@ -294,16 +298,11 @@ byte 10: Unknown << solve win(m, 1, X).
 byte 35: Limit << pred m(X, Y) := true. solve win(m, 1001, X).
 byte 0: NotBuilt << pred m(X, Y) := true. solve win(m, 0001000, X).
 byte 6: Limit << solve $18446744073709551616 = X.
-byte 0: NotBuilt << solve $0(X,X,X,X,X,X,X,X) = X.
 byte 24: Limit << solve $0(X,X,X,X,X,X,X,X,X) = X.
-byte 34: NotBuilt << symbol f/00000000000000000000008. solve X = X.
 byte 12: NotBuilt << symbol a/0. pred p(X) := X = a.
 byte 39: Ended << solve exists X: X = X. solve true. pred
-byte 0: NotBuilt << solve exists X: X = Y.
-byte 0: NotBuilt << solve exists X: X = X & finite(X).
-byte 0: NotBuilt << solve ~finite($1(X)).
 byte 0: NotBuilt << pred p := true. solve p. solve X = X.
-byte 12: NotBuilt << solve true. solve X = X. pred p := true.
+byte 25: NotBuilt << solve true. solve X = X. pred p := true.
 byte 23: NotBuilt << solve forall X: X = X. pred p := true. solve X = X.
 byte 12: Byte << solve true. #
 byte 18: Ended << solve true. symbol
@@ -339,6 +338,97 @@ fn other_files_are_refused_at_their_first_fault(rt: HostRuntime) -> Result<(), F
         let read = file_read_as(rt.alloc(), text)?;
         assert_eq!(rt; read.as_str(), wanted, "{text}");
     }
+    Ok(())
+}
+
+// How much a text declares and asks, or the fault that it is refused for.
+fn counts_of(alloc: Global, text: &str) -> Result<String, AllocError> {
+    let mut shown = String::new(alloc);
+    match read_file(alloc, text.as_bytes()) {
+        Ok(file) => write_counts(&mut shown, &file)?,
+        Err(error) => write!(shown, "{error}")?,
+    }
+    Ok(shown)
+}
+
+fn write_counts(shown: &mut String, file: &File) -> Result<(), AllocError> {
+    let (names, questions) = (file.signature.len(), file.solves.len());
+    write!(shown, "{names} names, {questions} questions")?;
+    if questions > 0 {
+        let variables = file.solves.get(0).names.as_slice().len();
+        write!(shown, ", {variables} variables")?;
+    }
+    Ok(())
+}
+
+// A question of so many variables behind one quantifier.
+fn question_of(alloc: Global, variables: usize) -> Result<String, AllocError> {
+    let mut text = String::from_str(alloc, "solve exists")?;
+    for i in 0..variables {
+        write!(text, " X{i}")?;
+    }
+    write!(text, ": X0 = X7.")?;
+    Ok(text)
+}
+
+// The declarations of so many symbols.
+fn symbols_of(alloc: Global, symbols: usize) -> Result<String, AllocError> {
+    let mut text = String::from_str(alloc, "symbol a/0")?;
+    for i in 1..symbols {
+        write!(text, ", a{i}/0")?;
+    }
+    text.push_str(".")?;
+    Ok(text)
+}
+
+// 65,536 questions in 1,048,576 bytes.
+fn longest_file(alloc: Global) -> Result<String, AllocError> {
+    let mut text = String::from_str(alloc, "solve true.     ")?;
+    for _ in 0..16 {
+        let half = String::from_str(alloc, text.as_str())?;
+        text.push_str(half.as_str())?;
+    }
+    Ok(text)
+}
+
+#[test]
+fn a_question_may_have_1000_variables(rt: HostRuntime) -> Result<(), Fail> {
+    let most = question_of(rt.alloc(), 1000)?;
+    let read = counts_of(rt.alloc(), most.as_str())?;
+    assert_eq!(rt; read.as_str(), "0 names, 1 questions, 1000 variables");
+    let more = question_of(rt.alloc(), 1001)?;
+    let refused = counts_of(rt.alloc(), more.as_str())?;
+    assert_eq!(rt; refused.as_str(), "byte 4903: Limit");
+    Ok(())
+}
+
+#[test]
+fn a_file_may_have_4096_symbols(rt: HostRuntime) -> Result<(), Fail> {
+    let most = symbols_of(rt.alloc(), 4096)?;
+    let read = counts_of(rt.alloc(), most.as_str())?;
+    assert_eq!(rt; read.as_str(), "4096 names, 0 questions");
+    let more = symbols_of(rt.alloc(), 4097)?;
+    let refused = counts_of(rt.alloc(), more.as_str())?;
+    assert_eq!(rt; refused.as_str(), "byte 35760: Limit");
+    Ok(())
+}
+
+#[test]
+fn a_file_may_have_1048576_bytes(rt: HostRuntime) -> Result<(), Fail> {
+    let mut text = longest_file(rt.alloc())?;
+    let read = counts_of(rt.alloc(), text.as_str())?;
+    assert_eq!(rt; read.as_str(), "0 names, 65536 questions, 0 variables");
+    text.push_str(" ")?;
+    let refused = counts_of(rt.alloc(), text.as_str())?;
+    assert_eq!(rt; refused.as_str(), "byte 1048576: Limit");
+    Ok(())
+}
+
+#[test]
+fn the_greatest_index_is_read(rt: HostRuntime) -> Result<(), Fail> {
+    let text = "solve exists X: X = $18446744073709551615.";
+    let read = file_read_as(rt.alloc(), text)?;
+    assert_eq!(rt; read.as_str(), "[X ] exists 0 0 = $18446744073709551615");
     Ok(())
 }
 

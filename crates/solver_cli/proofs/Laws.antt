@@ -3,18 +3,18 @@ use Rattle.std.proofs.Common.{◌≡◌, ℕ, ◌≤◌, ◌<◌, List, length, 
 use Rattle.std.proofs.lemmas.Bool.{lt-ltb}
 use Rattle.formula_grammar.specs.declared.fault.FaultKind.TheVariants.{Limit}
 use Rattle.formula_grammar.specs.FirstFault.{file_fault}
-use Rattle.formula_grammar.specs.Reading.{found}
-use Rattle.formula_grammar.proofs.Outcomes as outcomes
-use Rattle.solver_cli.specs.Language.{File, Fault, ReadsAs, IsFirstFault}
+use Rattle.formula_grammar.specs.NotBuilt.IsFirstFault.{found}
+use Rattle.formula_grammar.proofs.Stopping as stopping
+use Rattle.solver_cli.specs.Language.{File, Fault, ReadsBuilt, IsFirstFault}
 
-pub never_both : (bytes : List ℕ) (file : File) (fault : Fault) → ReadsAs bytes file → IsFirstFault bytes fault → ⊥
-never_both = outcomes.never_both
+pub never_both : (bytes : List ℕ) (file : File) (fault : Fault) → ReadsBuilt bytes file → IsFirstFault bytes fault → ⊥
+never_both = stopping.never_both_built
 
 pub one_fault : (bytes : List ℕ) (a b : Fault) → IsFirstFault bytes a → IsFirstFault bytes b → a ≡ b
-one_fault = outcomes.one_fault
+one_fault = stopping.one_fault
 
-pub reads_within : (bytes : List ℕ) (file : File) → ReadsAs bytes file → length bytes ≤ 1048576
-reads_within bytes file reads = reads.written.short
+pub reads_within : (bytes : List ℕ) (file : File) → ReadsBuilt bytes file → length bytes ≤ 1048576
+reads_within bytes file reads = reads.reads.reads.short
 
 -- the one fault of all bytes that are too long
 abbrev pub long_fault : Fault

@@ -1,6 +1,4 @@
 pub mod Answers
-pub mod Asked
-pub mod Decided
 pub mod FileRead
 pub mod Laws
 pub mod ReadingSteps

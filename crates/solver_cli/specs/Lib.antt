@@ -1,5 +1,3 @@
-pub mod Answered
-pub mod Asked
 pub mod Files
 pub mod Language
 pub mod Lines

@@ -1,19 +1,15 @@
 // A file's bytes are checked, and its statements are answered one by one.
-ghost use Rattle.std.specs.Prelude.{◌≡◌, ◌≢◌, ◌⊎◌, ◌≤◌, IfOk, length, string_bytes};
+ghost use Rattle.std.specs.Prelude.{◌≡◌, ◌≢◌, ◌⊎◌};
 ghost use Rattle.io_edge.specs.Edge.{Rose};
-ghost use Rattle.solver_cli.specs.Answered.{Answered};
-ghost use Rattle.solver_cli.specs.Asked.{AreClosed};
 ghost use Rattle.solver_cli.specs.Language.{Fault, IsFirstFault};
 ghost use Rattle.solver_cli.specs.Run.{AnswersAll, AnswersSoFar, AnswersCut};
 
-use crate::deciding::decide;
-use crate::wording::answer_text;
 use crate::writing::write_whole;
-use formula_ast::File;
+use answer_texts::answer;
+use flattening::Solved;
 use formula_reader::{Fault, ReadError, read_file};
 use io_edge::Sink;
-use lists::NoMemory;
-use normal_form::{Engine, PlainEngine};
+use normal_form::PlainEngine;
 use std::alloc::Global;
 
 // How a run came out.
@@ -24,22 +20,6 @@ pub(crate) enum Outcome {
     ReadFault,
     WriteFault,
     Memory,
-}
-
-// The text of a right answer of the statement with this number, counted from 1.
-fn answer<E: Engine>(
-    alloc: Global,
-    engine: &mut E,
-    file: &File,
-    number: usize,
-) -> Result<String, NoMemory>
-    requires first { 1 ≤ number }
-    requires within { number ≤ length file.now.solves }
-    requires closed { AreClosed file.now }
-    ensures { IfOk result (λ text. Answered file.now number (string_bytes text)) }
-{
-    let answer = decide(alloc, engine, file, file.solves.get(number - 1))?;
-    answer_text(alloc, number, answer)
 }
 
 /// Checks the bytes whole, and then decides each statement and writes its answer before the next one.
@@ -58,8 +38,10 @@ pub(crate) fn answer_bytes<O: Sink>(alloc: Global, bytes: &[u8], out: &mut O) ->
         Err(ReadError::NoMemory) => return Outcome::Memory,
     };
     let mut engine = PlainEngine;
+    // Each predicate and each win that is asked for is solved once for all statements.
+    let mut table = Solved::new(alloc);
     'statements: for place in 0..file.solves.len() {
-        let Ok(text) = answer(alloc, &mut engine, &file, place + 1) else {
+        let Ok(text) = answer(alloc, &mut engine, &file, place + 1, &mut table) else {
             return Outcome::Memory;
         };
         match write_whole(out, text.as_bytes()) {

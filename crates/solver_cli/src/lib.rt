@@ -2,17 +2,15 @@
 #![tactic(auto)]
 
 mod answering;
-mod deciding;
 mod reading;
 mod reporting;
 mod running;
 mod status;
 #[cfg(test)]
 mod tests;
-mod wording;
 mod writing;
 
-pub use deciding::{Answer, decide};
+pub use decision::{Answer, decide};
 pub use reporting::report;
 pub use running::run;
 pub use status::Status;

@@ -3,6 +3,7 @@ mod closed;
 mod faults;
 mod fronts;
 mod limits;
+mod open;
 
 use crate::{Status, report, run};
 use io_edge::{Failed, MemorySink, MemorySource, Source};

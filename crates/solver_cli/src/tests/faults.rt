@@ -114,14 +114,10 @@ fn the_grammar_counts_before_declarations(rt: HostRuntime) -> Result<(), Fail> {
 
 // It counts behind every other fault, and stands at the first statement of its kind.
 const NOT_ANSWERED: &str = "\
-fault 12 notbuilt << symbol f/1. solve finite(X).
-fault 0 notbuilt << solve exists X: X = Y.
-fault 0 notbuilt << solve exists X: X = X & finite(X).
 fault 12 notbuilt << symbol a/0. pred p(X) := X = a.
 fault 0 notbuilt << pred p := true. solve p.
 fault 0 notbuilt << pred p(A, B, C, D, E, F, G, H, I) := true.
 fault 53 notbuilt << solve true. solve forall X: finite(X). solve ~false. pred p := true. solve X = X.
-fault 35 notbuilt << solve exists X: X = X. solve true. solve finite(X).
 fault 12 byte << solve true. #
 fault 37 unknown << solve finite(X). solve exists X: X = q.
 fault 32 twice << pred p := true. solve p. symbol p/0.

@@ -1,9 +1,10 @@
 use Rattle.std.proofs.Common.{◌≡◌, ◌<◌, ◌≤◌, length, take, sym, ◌∙◌, arith}
 use Rattle.std.specs.Prelude.{codes, string_bytes}
-use Rattle.formula_printer.specs.Assignments.{assignment_names, node_equations, root_equations}
-use Rattle.formula_printer.specs.Steps.{all_text, later_text}
-use Rattle.formula_printer.specs.Texts.{names_text}
-use Rattle.formula_printer.proofs.Assigned.{below_more, node_words, assignment_text}
+use Rattle.std.specs.List.{join_by}
+use Rattle.formula_printer.specs.Assignments.{assignment_names, equations_of}
+use Rattle.formula_printer.specs.Texts.{names_text, text_of}
+use Rattle.formula_printer.specs.Writing.{written}
+use Rattle.formula_printer.proofs.Assigned.{below_more, node_words, equations_count, assignment_text}
 use Rattle.formula_printer.proofs.Closing.{all_count, some_nodes, written_out, assignment_reads}
 use Rattle.formula_printer.proofs.assignment.print_assignment.Goals as goal
 
@@ -12,28 +13,23 @@ write_names-requires c =
     let all_is : c.in_ok-all.all ≡ assignment_names c.args.names.now c.args.a.now = rw c.nodes-nodes.ensures.nodes at c.in_ok-all.ensures in
     rw (all_is, c.nodes-nodes.ensures.nodes) (omega (arith, all_count c.args.names.now c.args.a.now))
 
-pub write_nodes-requires-clause-places : goal.write_nodes-requires-clause-places
-write_nodes-requires-clause-places c =
+pub write_equations-requires-clause-all : goal.write_equations-requires-clause-all
+write_equations-requires-clause-all c =
     let all_is : c.in_ok-all.all ≡ assignment_names c.args.names.now c.args.a.now = rw c.nodes-nodes.ensures.nodes at c.in_ok-all.ensures in
-    rw (all_is, c.nodes-nodes.ensures.nodes) (omega (arith, all_count c.args.names.now c.args.a.now))
+    rw all_is (omega (arith, c.requires.roots, equations_count c.args.a.now, all_count c.args.names.now c.args.a.now))
 
-pub write_nodes-requires-clause-nodes : goal.write_nodes-requires-clause-nodes
-write_nodes-requires-clause-nodes c =
+pub write_equations-requires-clause-nodes : goal.write_equations-requires-clause-nodes
+write_equations-requires-clause-nodes c =
     let all_is : c.in_ok-all.all ≡ assignment_names c.args.names.now c.args.a.now = rw c.nodes-nodes.ensures.nodes at c.in_ok-all.ensures in
     let few : length c.args.a.now.nodes ≤ length (assignment_names c.args.names.now c.args.a.now) = omega (arith, all_count c.args.names.now c.args.a.now) in
-    rw (all_is, c.nodes-nodes.ensures.nodes)
+    rw all_is
     (node_words c.args.sig.now (length (assignment_names c.args.names.now c.args.a.now)) c.args.a.now.nodes few c.requires.fits c.nodes-nodes.ensures.in_range.children)
 
-pub write_roots-requires-clause-places : goal.write_roots-requires-clause-places
-write_roots-requires-clause-places c =
-    let all_is : c.in_ok-all.all ≡ assignment_names c.args.names.now c.args.a.now = rw c.nodes-nodes.ensures.nodes at c.in_ok-all.ensures in
-    rw (all_is, c.nodes-nodes.ensures.nodes, c.roots.ensures.roots, c.requires.roots) (omega (arith, all_count c.args.names.now c.args.a.now))
-
-pub write_roots-requires-clause-roots : goal.write_roots-requires-clause-roots
-write_roots-requires-clause-roots c =
+pub write_equations-requires-clause-roots : goal.write_equations-requires-clause-roots
+write_equations-requires-clause-roots c =
     let all_is : c.in_ok-all.all ≡ assignment_names c.args.names.now c.args.a.now = rw c.nodes-nodes.ensures.nodes at c.in_ok-all.ensures in
     let few : length c.args.a.now.nodes ≤ length (assignment_names c.args.names.now c.args.a.now) = omega (arith, all_count c.args.names.now c.args.a.now) in
-    rw (all_is, c.roots.ensures.roots)
+    rw all_is
     (below_more (length c.args.a.now.nodes) (length (assignment_names c.args.names.now c.args.a.now)) c.args.a.now.roots few c.nodes-nodes.ensures.in_range.roots_within)
 
 pub returns-clause-text : goal.returns-clause-text
@@ -44,12 +40,11 @@ returns-clause-text c =
     let few : length c.args.a.now.nodes ≤ length (assignment_names c.args.names.now c.args.a.now) = omega (arith, all_count c.args.names.now c.args.a.now) in
     let whole =
     written_out (codes "exists") (names_text (take (length c.nodes-nodes.result.now) c.in_ok-all.all)) (codes ": (")
-    (all_text c.args.sig.now c.in_ok-all.all (node_equations 0 c.nodes-nodes.result.now))
-    (later_text c.args.sig.now c.in_ok-all.all (root_equations (length c.nodes-nodes.result.now) c.roots.result.now)) (codes ")")
-    c.new-text.ensures.bytes c.in_ok-write_text.ensures c.in_ok-write_names.ensures c.in_ok-write_text-2.ensures c.in_ok-write_nodes.ensures c.in_ok-write_roots.ensures
+    (join_by (λ f. text_of (written c.args.sig.now c.in_ok-all.all f)) (codes " & ") (equations_of c.args.a.now)) (codes ")")
+    c.new-text.ensures.bytes c.in_ok-write_text.ensures c.in_ok-write_names.ensures c.in_ok-write_text-2.ensures c.in_ok-write_equations.ensures
     c.in_ok-write_text-3.ensures in
-    rw (all_is, c.nodes-nodes.ensures.nodes, c.roots.ensures.roots) at whole
-    ∙ sym (assignment_text c.args.sig.now (assignment_names c.args.names.now c.args.a.now) c.args.a.now.nodes c.args.a.now.roots some rooted few)
+    rw (all_is, c.nodes-nodes.ensures.nodes) at whole
+    ∙ sym (assignment_text c.args.sig.now (assignment_names c.args.names.now c.args.a.now) c.args.a.now some rooted few)
 
 pub returns-clause-reads : goal.returns-clause-reads
 returns-clause-reads c =

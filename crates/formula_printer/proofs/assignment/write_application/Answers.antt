@@ -1,4 +1,3 @@
-use Rattle.formula_printer.specs.Writing.{written_terms}
 use Rattle.std.proofs.Common.{List, ℕ, get_or, ap, sym, ◌≡◌, ◌<◌, length, take, arith, rules, ◌∙◌, append_assoc}
 use Rattle.std.specs.Prelude.{map}
 use Rattle.std.proofs.lemmas.List.{take_all, length-map}
@@ -6,7 +5,7 @@ use Rattle.std.proofs.lemmas.Result.{IfOk-equal}
 use Rattle.formula_ast.specs.declared.term.Term.{Term}
 use Rattle.formula_ast.specs.declared.term.Term.TheVariants as term
 use Rattle.formula_printer.proofs.Assigned.{child_at}
-use Rattle.formula_printer.proofs.Layers.{applied_text, closed, opened_more, written-var}
+use Rattle.formula_printer.proofs.Layers.{closed, opened_more, written-var}
 use Rattle.formula_printer.proofs.assignment.write_application.Goals as goal
 
 pub loop-i-preserved : goal.loop-i-preserved
@@ -25,5 +24,5 @@ returns c =
     let some : ¬ (length children ≡ 0) = λ none. c.if-len-eq0.false (c.len.ensures ∙ sym size ∙ none) in
     let all : take c.loop-i.i children ≡ children = take_all c.loop-i.i children (omega (arith, size, ap (λ (z : List ℕ). length z) c.as_slice-child-items.ensures)) in
     let so_far = rw all at c.loop-i.invariant in
-    rw (applied_text c.args.sig.now c.args.node.now.symbol (written_terms c.args.sig.now c.args.names.now children), closed c.args.sig.now c.args.names.now children some)
+    rw (closed c.args.sig.now c.args.names.now children some)
     (search (rules, IfOk-equal, append_assoc, so_far))

@@ -2,7 +2,8 @@ use Rattle.std.proofs.Common.{◌≡◌, take, arith, rules}
 use Rattle.lists.proofs.Items.{item_stands, all_items}
 use Rattle.formula_ast.specs.Terms.{list_of}
 use Rattle.formula_printer.specs.Printable.{TermFits}
-use Rattle.formula_printer.proofs.Checked.{one_more_item, on_true, on_less, variable_fits_in, application_fits_in}
+use Rattle.formula_printer.proofs.Checked.{one_more_item, on_true, on_less}
+use Rattle.formula_printer.proofs.Layers.{variable_fits_in, application_fits_in}
 use Rattle.formula_printer.proofs.checks.+fits.Goals as goal
 
 pub term_fits-returns-in-Var : goal.term_fits-returns-in-Var

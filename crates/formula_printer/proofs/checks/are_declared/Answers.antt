@@ -3,7 +3,8 @@ use Rattle.std.proofs.lemmas.List.{take_all}
 use Rattle.formula_ast.specs.declared.token.TokenKind.TheVariants as k
 use Rattle.formula_ast.specs.Tokens.{kind_of}
 use Rattle.formula_printer.specs.Writing.{names_of}
-use Rattle.formula_printer.proofs.Checked.{one_more_item, declared_at_place, names_length}
+use Rattle.formula_printer.proofs.Checked.{one_more_item, names_length}
+use Rattle.formula_printer.proofs.Places.{declared_at_place}
 use Rattle.formula_printer.proofs.checks.are_declared.Goals as goal
 
 pub loop-i-preserved : goal.loop-i-preserved

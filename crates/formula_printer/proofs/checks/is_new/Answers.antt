@@ -1,7 +1,7 @@
 use borrow.Author.Count.{below_more}
 use Rattle.std.proofs.Common.{◌≢◌, sym, ◌∙◌}
 use Rattle.formula_printer.specs.Writing.{text_at}
-use Rattle.formula_printer.proofs.Lists.{named_at}
+use Rattle.formula_printer.proofs.Places.{named_at}
 use Rattle.formula_printer.proofs.Checked.{apart_texts}
 use Rattle.formula_printer.proofs.checks.is_new.Goals as goal
 

@@ -1,9 +1,10 @@
-use Rattle.std.proofs.Common.{rules, length}
-use Rattle.std.proofs.Common.{append_assoc}
+use Rattle.std.proofs.Common.{rules, length, append_assoc, ap}
 use Rattle.std.proofs.lemmas.Result.{IfOk-equal}
 use Rattle.formula_ast.specs.declared.formula.Formula.TheViews.{the_lemmas}
-use Rattle.formula_printer.proofs.Fitting.{fits_equal, fits_differ, fits_finite, fits_call, fits_win, fits_not, fits_and, fits_or, fits_imp, fits_iff, fits_exists, fits_forall, true_text, false_text, equal_text, differ_text, finite_text, call_text, win_text, not_text, and_text, or_text, imp_text, iff_text}
-use Rattle.formula_printer.proofs.Levels.{exists_text, forall_text, more_exists, more_forall, other_exists, other_forall}
+use Rattle.formula_printer.specs.Steps.{quantifier_of}
+use Rattle.formula_printer.specs.Writing.{text_at}
+use Rattle.formula_printer.proofs.Fitting.{fits_equal, fits_differ, fits_finite, fits_call, fits_win, fits_not, fits_and, fits_or, fits_imp, fits_iff, fits_exists, fits_forall, true_text, false_text, equal_text, differ_text, finite_text, call_text, win_text, not_text, and_text, or_text, imp_text, iff_text, exists_text, forall_text}
+use Rattle.formula_printer.proofs.Levels.{next_exists, next_forall, last_exists, last_forall}
 use Rattle.formula_printer.proofs.formula.+formula.Goals as goal
 
 pub write_formula-write_pair-requires-clause-left : goal.write_formula-write_pair-requires-clause-left
@@ -87,24 +88,14 @@ write_formula-write_operand-requires-in-Iff t c =
     let fits = fits_iff c.args.sig.now (length c.args.names.now) c.args.f.now c.get-in-Iff.result.now c.get-in-Iff-2.result.now (rw (c.get-in-Iff.ensures, c.get-in-Iff-2.ensures) c.in-Iff.is) c.requires in
     (search (rules, the_lemmas), fits.1)
 
-pub write_formula-write_some-requires : goal.write_formula-write_some-requires
-write_formula-write_some-requires t c =
+pub write_formula-write_bound-requires : goal.write_formula-write_bound-requires
+write_formula-write_bound-requires t c =
     let fits = fits_exists c.args.sig.now (length c.args.names.now) c.args.f.now c.in-Exists.x c.get-in-Exists.result.now (rw c.get-in-Exists.ensures c.in-Exists.is) c.requires in
     (search (rules, the_lemmas), fits)
 
-pub write_some-write_some-requires : goal.write_some-write_some-requires
-write_some-write_some-requires t c =
-    let fits = fits_exists c.args.sig.now (length c.args.names.now) c.args.f.now c.in-Exists.y c.get.result.now (rw c.get.ensures c.in-Exists.is) c.requires.body in
-    (search (rules, the_lemmas), fits)
-
-pub write_formula-write_all-requires : goal.write_formula-write_all-requires
-write_formula-write_all-requires t c =
+pub write_formula-write_bound-requires-in-Forall : goal.write_formula-write_bound-requires-in-Forall
+write_formula-write_bound-requires-in-Forall t c =
     let fits = fits_forall c.args.sig.now (length c.args.names.now) c.args.f.now c.in-Forall.x c.get-in-Forall.result.now (rw c.get-in-Forall.ensures c.in-Forall.is) c.requires in
-    (search (rules, the_lemmas), fits)
-
-pub write_all-write_all-requires : goal.write_all-write_all-requires
-write_all-write_all-requires t c =
-    let fits = fits_forall c.args.sig.now (length c.args.names.now) c.args.f.now c.in-Forall.y c.get.result.now (rw c.get.ensures c.in-Forall.is) c.requires.body in
     (search (rules, the_lemmas), fits)
 
 pub write_formula-returns-in-True : goal.write_formula-returns-in-True
@@ -163,18 +154,36 @@ pub write_formula-returns-in_ok-write_text-in-Forall : goal.write_formula-return
 write_formula-returns-in_ok-write_text-in-Forall t c =
     rw (forall_text c.args.sig.now c.args.names.now c.args.f.now c.in-Forall.x c.get-in-Forall.result.now (rw c.get-in-Forall.ensures c.in-Forall.is)) (search (rules, IfOk-equal, append_assoc))
 
-pub write_some-returns-in-Exists : goal.write_some-returns-in-Exists
-write_some-returns-in-Exists t c =
-    rw (more_exists c.args.sig.now c.args.names.now c.args.f.now c.in-Exists.y c.get.result.now (rw c.get.ensures c.in-Exists.is)) (search (rules, IfOk-equal, append_assoc))
+pub write_bound-write_bound-requires : goal.write_bound-write_bound-requires
+write_bound-write_bound-requires t c =
+    let fits = fits_exists c.args.sig.now (length c.args.names.now) c.args.f.now c.in-Exists-f.y c.get.result.now (rw c.get.ensures c.in-Exists-f.is) c.requires.body in
+    (search (rules, the_lemmas), fits)
 
-pub write_some-returns-in_ok-write_text-in_default : goal.write_some-returns-in_ok-write_text-in_default
-write_some-returns-in_ok-write_text-in_default t c =
-    rw (other_exists c.args.sig.now c.args.names.now c.args.f.now c.in_default.not-Exists) (search (rules, IfOk-equal, append_assoc))
+pub write_bound-write_bound-requires-in-Forall-f : goal.write_bound-write_bound-requires-in-Forall-f
+write_bound-write_bound-requires-in-Forall-f t c =
+    let fits = fits_forall c.args.sig.now (length c.args.names.now) c.args.f.now c.in-Forall-f.y c.get-in-Forall-f.result.now (rw c.get-in-Forall-f.ensures c.in-Forall-f.is) c.requires.body in
+    (search (rules, the_lemmas), fits)
 
-pub write_all-returns-in-Forall : goal.write_all-returns-in-Forall
-write_all-returns-in-Forall t c =
-    rw (more_forall c.args.sig.now c.args.names.now c.args.f.now c.in-Forall.y c.get.result.now (rw c.get.ensures c.in-Forall.is)) (search (rules, IfOk-equal, append_assoc))
+pub write_bound-returns-in-Exists-f : goal.write_bound-returns-in-Exists-f
+write_bound-returns-in-Exists-f t c =
+    let x = text_at c.args.names.now c.args.x in
+    rw (next_exists c.args.sig.now c.args.names.now (quantifier_of c.args.quantifier) x c.args.f.now c.in-Exists-f.y c.get.result.now (ap quantifier_of c.in-Exists.is) (rw c.get.ensures c.in-Exists-f.is))
+    (search (rules, IfOk-equal, append_assoc))
 
-pub write_all-returns-in_ok-write_text-in_default : goal.write_all-returns-in_ok-write_text-in_default
-write_all-returns-in_ok-write_text-in_default t c =
-    rw (other_forall c.args.sig.now c.args.names.now c.args.f.now c.in_default.not-Forall) (search (rules, IfOk-equal, append_assoc))
+pub write_bound-returns-in_default : goal.write_bound-returns-in_default
+write_bound-returns-in_default t c =
+    let x = text_at c.args.names.now c.args.x in
+    rw (last_exists c.args.sig.now c.args.names.now (quantifier_of c.args.quantifier) x c.args.f.now (ap quantifier_of c.in-Exists.is) c.in_default.not-Exists)
+    (search (rules, IfOk-equal, append_assoc))
+
+pub write_bound-returns-in-Forall-f : goal.write_bound-returns-in-Forall-f
+write_bound-returns-in-Forall-f t c =
+    let x = text_at c.args.names.now c.args.x in
+    rw (next_forall c.args.sig.now c.args.names.now (quantifier_of c.args.quantifier) x c.args.f.now c.in-Forall-f.y c.get-in-Forall-f.result.now (ap quantifier_of c.in-Forall.is) (rw c.get-in-Forall-f.ensures c.in-Forall-f.is))
+    (search (rules, IfOk-equal, append_assoc))
+
+pub write_bound-returns-in_default-f : goal.write_bound-returns-in_default-f
+write_bound-returns-in_default-f t c =
+    let x = text_at c.args.names.now c.args.x in
+    rw (last_forall c.args.sig.now c.args.names.now (quantifier_of c.args.quantifier) x c.args.f.now (ap quantifier_of c.in-Forall.is) c.in_default-f.not-Forall)
+    (search (rules, IfOk-equal, append_assoc))

@@ -1,4 +1,4 @@
-use Rattle.formula_printer.proofs.Lists.{declared_name}
+use Rattle.formula_printer.proofs.Places.{declared_name}
 use Rattle.formula_printer.proofs.words.write_name.Goals as goal
 
 pub returns : goal.returns

@@ -1,4 +1,4 @@
-use Rattle.formula_printer.proofs.Lists.{named_at}
+use Rattle.formula_printer.proofs.Places.{named_at}
 use Rattle.formula_printer.proofs.words.write_variable.Goals as goal
 
 pub returns : goal.returns

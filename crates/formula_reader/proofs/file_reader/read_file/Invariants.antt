@@ -1,13 +1,9 @@
-use Rattle.std.proofs.Common.{◌≡◌}
-use Rattle.formula_reader.proofs.Steps.{room}
+use Rattle.formula_reader.proofs.Rooms.{room}
 use Rattle.formula_reader.proofs.FileReading.{Progress}
 use Rattle.formula_reader.proofs.file_reader.read_file.Given as goal
 
 abbrev pub invariant-statements : goal.invariant-statements
-invariant-statements l = record {
-  bytes : l.reader.bytes ≡ l.fn.bytes;
-  progress : Progress l.fn.bytes l.reader l.file l.not_built;
-}
+invariant-statements l = record { progress : Progress l.fn.bytes l.reader l.file l.not_built }
 
 abbrev pub decreases-statements : goal.decreases-statements
 decreases-statements l = room l.reader

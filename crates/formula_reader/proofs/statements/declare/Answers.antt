@@ -1,7 +1,7 @@
 use Rattle.std.proofs.Common.{Err, ap, subst}
 use Rattle.tree_model.specs.Signatures.{Signature}
 use Rattle.signature.specs.Names.{HasDistinctNames}
-use Rattle.formula_reader.proofs.StatementSteps.{stands_nowhere}
+use Rattle.formula_reader.proofs.Declaring.{stands_nowhere}
 use Rattle.formula_reader.proofs.statements.declare.Goals as goal
 
 pub unreachable-requires : goal.unreachable-requires

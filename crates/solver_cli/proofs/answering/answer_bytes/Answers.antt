@@ -1,26 +1,29 @@
 use Rattle.std.proofs.Common.{◌≡◌, ◌+◌, length, arith}
-use Rattle.solver_cli.specs.Answered.{Answered}
+use Rattle.solver_cli.specs.Language.{Answered}
+use Rattle.step_facts.specs.Lists.{IsPlain}
+use Rattle.game_library.proofs.Grown.{none_right}
 use Rattle.solver_cli.proofs.Answers.{begun, stepped, ended, was_cut}
-use Rattle.solver_cli.proofs.Asked.{are_closed}
 use Rattle.solver_cli.proofs.answering.answer_bytes.Goals as goal
 
 pub statements-init : goal.statements-init
-statements-init g c = begun g.O.Sink.writes g.O.Sink.taken g.O.Sink.faults c.args.bytes.now c.in-Ok.file c.args.out.now c.in-Ok.ensures.file
-
-pub answer-requires-clause-closed : goal.answer-requires-clause-closed
-answer-requires-clause-closed g c = are_closed c.args.bytes.now c.in-Ok.file c.in-Ok.ensures.file c.in-Ok.ensures.well_formed
+statements-init g c = (
+  begun g.O.Sink.writes g.O.Sink.taken g.O.Sink.faults c.args.bytes.now c.in-Ok.file c.args.out.now c.in-Ok.ensures.file,
+  rw c.new-table.ensures (none_right IsPlain c.in-Ok.file),
+)
 
 pub returns-in-Err-clause-cut : goal.returns-in-Err-clause-cut
 returns-in-Err-clause-cut g c is =
-    let right : Answered c.in-Ok.file (c.statements.place + 1) c.as_bytes.result.now = rw c.as_bytes.ensures.value c.in-Ok-answer.ensures in
-    was_cut g.O.Sink.writes g.O.Sink.taken g.O.Sink.faults c.args.bytes.now c.in-Ok.file c.statements.place c.args.out.now c.statements.out c.write_whole.new.out c.as_bytes.result.now c.statements.invariant (omega arith) right c.in-Err.ensures.cut
+    let right : Answered c.in-Ok.file (c.statements.place + 1) c.as_bytes.result.now = rw c.as_bytes.ensures.value c.in-Ok-answer.ensures.answered in
+    was_cut g.O.Sink.writes g.O.Sink.taken g.O.Sink.faults c.args.bytes.now c.in-Ok.file c.statements.place c.args.out.now c.statements.out c.write_whole.new.out c.as_bytes.result.now c.statements.invariant.0 (omega arith) right c.in-Err.ensures.cut
 
 pub statements-preserved : goal.statements-preserved
 statements-preserved g c =
-    let right : Answered c.in-Ok.file (c.statements.place + 1) c.as_bytes.result.now = rw c.as_bytes.ensures.value c.in-Ok-answer.ensures in
-    stepped g.O.Sink.writes g.O.Sink.taken g.O.Sink.faults c.args.bytes.now c.in-Ok.file c.statements.place c.args.out.now c.statements.out c.write_whole.new.out c.as_bytes.result.now c.statements.invariant (omega arith) right c.in-Ok-write_whole.ensures.whole c.write_whole.ensures.count
+    let right : Answered c.in-Ok.file (c.statements.place + 1) c.as_bytes.result.now = rw c.as_bytes.ensures.value c.in-Ok-answer.ensures.answered in (
+      stepped g.O.Sink.writes g.O.Sink.taken g.O.Sink.faults c.args.bytes.now c.in-Ok.file c.statements.place c.args.out.now c.statements.out c.write_whole.new.out c.as_bytes.result.now c.statements.invariant.0 (omega arith) right c.in-Ok-write_whole.ensures.whole c.write_whole.ensures.count,
+      c.answer.ensures.table,
+    )
 
 pub returns-clause-done : goal.returns-clause-done
 returns-clause-done g c is =
     let last : c.statements.place ≡ length c.in-Ok.file.solves = omega arith in
-    ended g.O.Sink.writes g.O.Sink.taken g.O.Sink.faults c.args.bytes.now c.in-Ok.file c.statements.place c.args.out.now c.statements.out c.statements.invariant last
+    ended g.O.Sink.writes g.O.Sink.taken g.O.Sink.faults c.args.bytes.now c.in-Ok.file c.statements.place c.args.out.now c.statements.out c.statements.invariant.0 last

@@ -1,299 +1,372 @@
-use Rattle.std.proofs.Common.{◌∙◌, suc, [], ◌∷◌, arith, ap, refl, sym, subst}
+use Rattle.std.proofs.Common.{◌≡◌, ◌≤◌, ◌∷◌, ◌++◌, [], true, length, map, drop, take, refl, sym, ap, subst, ◌∙◌, arith}
 use Rattle.formula_ast.specs.declared.token.TokenKind.TheVariants as k
-use Rattle.formula_ast.specs.Forms as form
-use Rattle.formula_ast.specs.Forms.{form_of}
-use Rattle.formula_grammar.specs.Grammar as g
-use Rattle.formula_grammar.specs.Meaning.{behind}
+use Rattle.formula_ast.specs.declared.token.TokenKind.{TokenKind}
+use Rattle.formula_grammar.specs.Written.{Joint, exists, forall}
+use Rattle.formula_grammar.specs.Words.{sign}
+use Rattle.formula_grammar.specs.Meaning.{number_in}
 use Rattle.formula_grammar.specs.Machine as m
-use Rattle.formula_reader.specs.Input.{left_of, text_ahead, place_of, texts_of}
+use Rattle.formula_reader.specs.Input.{Input, Scope, left_of, starts, place_of}
+use Rattle.formula_reader.specs.Kinds.{joint_of, quantifier_of, chains}
 use Rattle.formula_reader.specs.Faults.{fault_of}
-use Rattle.formula_reader.proofs.Steps.{marks, words, took_plain, stopped, refuses_as, room_kept}
-use Rattle.formula_reader.proofs.FormulaSteps.{formula_moves, implication_moves, disjunction_moves, conjunction_moves, iff_passes, imp_passes, or_passes, and_passes, colon_next, variable_next, and_taken, or_taken, arrow_taken, first_binds, next_binds, fails, made, if_made, nothing_more}
-use Rattle.formula_reader.proofs.FormulaReading.{ReadsFormula, first_conjunct, next_conjunct, all_conjuncts, first_disjunct, next_disjunct, all_disjuncts, both_imply, both_equal, plain_implication, plain_formula, not_read, group_read, exists_read, forall_read, first_bound, next_bound, copied_and_one, body_read, under, quantified_under}
-use Rattle.formula_reader.proofs.Rooms.{seen_within, less_room, less_from}
+use Rattle.formula_grammar.specs.Checks.{start}
+use Rattle.formula_reader.specs.Reads.{ParsesOperand}
+use Rattle.formula_reader.proofs.Steps.{words_taken, refused_here, refused_as, blocked, failed, refusal, answers_as, refuses_before, stopped_plain, no_memory}
+use Rattle.formula_reader.proofs.Rooms.{less, less_seen, kept}
+use Rattle.formula_reader.proofs.Reading.{same_place}
+use Rattle.formula_reader.proofs.AtomReading.{ReadOperand}
+use Rattle.formula_reader.proofs.FormulaReading.{operand_level, tail_passes, level_bounds, chain_left, again_more, again_none, weaker, joined_read, made, nested, not_nested, no_read, group_read, quantified_read, first_bound, next_bound, not_bound, variables_blocked, colon_taken, body_read, outer_within}
 use Rattle.formula_reader.proofs.reader.Reader.+formulas.Goals as goal
 
-pub conjunction-returns-in_err-left-clause-faults : goal.conjunction-returns-in_err-left-clause-faults
-conjunction-returns-in_err-left-clause-faults t c = λ s.
-    fails _ _ _ _ _ c.from_residual.ensures.1 (conjunction_moves c.args.signature.now c.args.self.now (place_of c.args.place) s) (refuses_as _ _ _ (c.in_err-left.ensures.faults (m.and_tail (place_of c.args.place) ∷ s)))
+-- ---- operands
 
-pub conjunction-more-init : goal.conjunction-more-init
-conjunction-more-init t c = record {
-  read = first_conjunct c.in_ok-left.ensures.reads;
-  faults = λ s. conjunction_moves c.args.signature.now c.args.self.now (place_of c.args.place) s ∙ c.in_ok-left.ensures.faults (m.and_tail (place_of c.args.place) ∷ s);
-  bytes = c.in_ok-left.ensures.bytes;
-  on = c.in_ok-left.ensures.on;
-}
+pub operand-returns-in_default : goal.operand-returns-in_default
+operand-returns-in_default t c =
+    subst (λ n. ParsesOperand n c.args.place c.unary.result c.args.signature.now c.args.self.now c.unary.new.self) (sym c.in_default.ensures) c.unary.ensures
 
-pub conjunction-returns-in_err-join-clause-faults : goal.conjunction-returns-in_err-join-clause-faults
-conjunction-returns-in_err-join-clause-faults t c = λ s.
-    fails _ _ _ _ _ c.from_residual-in_err-join.ensures.1 (c.more.invariant.faults s)
-    (stopped k.Amp c.more.self (sym c.more-test.ensures) c.args.signature.now _ _ c.in_err-join.ensures.stops (m.and_tail (place_of c.args.place) ∷ s) _ (m.joins ∷ []) refl refl)
+pub operand-unary-requires : goal.operand-unary-requires
+operand-unary-requires t c = (omega (arith, c.requires.level), c.requires.depth)
 
-pub conjunction-returns-in_err-right-clause-faults : goal.conjunction-returns-in_err-right-clause-faults
-conjunction-returns-in_err-right-clause-faults t c = λ s.
-    fails _ _ _ _ _ c.from_residual-in_err-right.ensures.1
-    (c.more.invariant.faults s ∙ and_taken c.args.signature.now c.more.self c.join.new.self (place_of c.args.place) s (sym c.more-test.ensures) c.in_ok-join.ensures.takes c.in_ok-join.ensures.joints)
-    (refuses_as _ _ _ (c.in_err-right.ensures.faults (m.and_tail (place_of c.args.place) ∷ s)))
+pub operand-operand-requires : goal.operand-operand-requires
+operand-operand-requires t c =
+    let bounds = level_bounds (joint_of c.in-Some.joint) in
+    (omega (arith, bounds.1, c.in-Some.ensures), (c.requires.depth, (omega arith, omega (arith, bounds.1, c.in-Some.ensures))))
 
-pub conjunction-unary-requires-in-more : goal.conjunction-unary-requires-in-more
-conjunction-unary-requires-in-more t c =
-    let less = less_room k.Amp c.args.self.now c.more.self c.join.new.self c.more.invariant.bytes c.more.invariant.on (sym c.more-test.ensures) c.in_ok-join.ensures.takes.bytes c.in_ok-join.ensures.on in
-    (omega arith, c.requires.depth)
+pub operand-returns-in_err-left : goal.operand-returns-in_err-left
+operand-returns-in_err-left t c =
+    let old = c.args.self.now in
+    let j = joint_of c.in-Some.joint in
+    refusal _ _ _ c.args.self.now _ _ _ c.from_residual.ensures.1 (operand_level c.args.signature.now old j c.args.level (place_of old c.args.place) c.in-Some.ensures)
+    (λ s. c.in_err-left.ensures (m.tail j (place_of old c.args.place) ∷ s))
 
-pub conjunction-more-smaller : goal.conjunction-more-smaller
-conjunction-more-smaller t c =
-    let less = less_room k.Amp c.more.self c.more.self c.join.new.self refl (omega arith) (sym c.more-test.ensures) c.in_ok-join.ensures.takes.bytes c.in_ok-join.ensures.on in
-    let rest = room_kept c.join.new.self c.unary-in-more.new.self c.in_ok-right.ensures.bytes c.in_ok-right.ensures.on in
-    omega arith
+pub operand-more-init : goal.operand-more-init
+operand-more-init t c =
+    let old = c.args.self.now in
+    let j = joint_of c.in-Some.joint in
+    let bounds = level_bounds j in
+    record {
+      read = weaker (omega (arith, bounds, c.in-Some.ensures)) c.in_ok-left.ensures.read;
+      faults = λ s. operand_level c.args.signature.now old j c.args.level (place_of old c.args.place) c.in-Some.ensures s
+          ∙ c.in_ok-left.ensures.faults (m.tail j (place_of old c.args.place) ∷ s);
+    }
 
-pub conjunction-more-preserved : goal.conjunction-more-preserved
-conjunction-more-preserved t c = record {
-  read = next_conjunct c.more.invariant.read (marks k.Amp (sym c.more-test.ensures) c.in_ok-join.ensures.takes) c.in_ok-join.ensures.keeps c.in_ok-right.ensures.reads
-      c.in_ok-left-2.ensures.formula;
-  faults = λ s. c.more.invariant.faults s ∙ and_taken c.args.signature.now c.more.self c.join.new.self (place_of c.args.place) s (sym c.more-test.ensures) c.in_ok-join.ensures.takes c.in_ok-join.ensures.joints ∙ c.in_ok-right.ensures.faults (m.and_tail (place_of c.args.place) ∷ s);
-  bytes = c.in_ok-right.ensures.bytes ∙ c.in_ok-join.ensures.takes.bytes ∙ c.more.invariant.bytes;
-  on = omega (arith, c.more.invariant.on, c.in_ok-join.ensures.on, c.in_ok-right.ensures.on);
-}
+pub operand-returns-in_err-inner : goal.operand-returns-in_err-inner
+operand-returns-in_err-inner t c =
+    let old = c.args.self.now in
+    let j = joint_of c.in-Some.joint in
+    let same = same_place old c.more.self c.args.place (ap (λ scope. scope.bound) c.more.invariant.read.scope) in
+    refusal _ _ _ c.args.self.now _ _ _ c.from_residual-in_err-inner.ensures.1
+    (λ s. c.more.invariant.faults s ∙ ap (λ p. fault_of c.args.signature.now c.more.self (m.tail j p ∷ s)) (sym same))
+    (c.in_err-inner.ensures c.args.signature.now)
 
-pub conjunction-returns-clause-faults : goal.conjunction-returns-clause-faults
-conjunction-returns-clause-faults t c = λ s. c.more.invariant.faults s ∙ and_passes c.args.signature.now c.more.self (place_of c.args.place) s c.more-test.ensures
+-- the sign of the joint stands next
+abbrev Signed : Joint → TokenKind → Input → Type 0
+Signed j kind i = (true ≡ starts kind (left_of i)) → kind ≡ sign j → starts (sign j) (left_of i) ≡ true
 
-pub conjunction-returns-clause-reads : goal.conjunction-returns-clause-reads
-conjunction-returns-clause-reads t c = all_conjuncts c.more.invariant.read
+signed : (j : Joint) (kind : TokenKind) (i : Input) → Signed j kind i
+signed j kind i seen is = ap (λ of. starts of (left_of i)) (sym is) ∙ sym seen
 
-pub conjunction-returns-clause-bytes : goal.conjunction-returns-clause-bytes
-conjunction-returns-clause-bytes t c = c.more.invariant.bytes
+pub operand-join-requires : goal.operand-join-requires
+operand-join-requires t c = record { depth = c.requires.depth; starts = signed (joint_of c.in-Some.joint) c.sign.result c.more.self c.more-test.ensures c.sign.ensures }
 
-pub conjunction-returns-clause-on : goal.conjunction-returns-clause-on
-conjunction-returns-clause-on t c = c.more.invariant.on
+pub operand-operand-requires-in-more : goal.operand-operand-requires-in-more
+operand-operand-requires-in-more t c =
+    let old = c.args.self.now in
+    let σ = c.args.signature.now in
+    let j = joint_of c.in-Some.joint in
+    let place = place_of c.more.self c.args.place in
+    let same = same_place old c.more.self c.args.place (ap (λ scope. scope.bound) c.more.invariant.read.scope) in
+    let sign_read = c.in_ok-inner.ensures σ in
+    let seen = signed j c.sign.result c.more.self c.more-test.ensures c.sign.ensures in
+    let bounds = level_bounds j in
+    let further = less_seen (sign j) c.more.self c.join.new.self seen sign_read.bytes sign_read.on in
+    let before = kept old c.more.self c.more.invariant.read.bytes c.more.invariant.read.on in (
+      omega (arith, further, before),
+      (sign_read.depth, (omega (arith, bounds, c.right.ensures), omega (arith, bounds, c.right.ensures))),
+    )
 
-pub disjunction-returns-in_err-left-clause-faults : goal.disjunction-returns-in_err-left-clause-faults
-disjunction-returns-in_err-left-clause-faults t c = λ s.
-    fails _ _ _ _ _ c.from_residual.ensures.1 (disjunction_moves c.args.signature.now c.args.self.now (place_of c.args.place) s) (refuses_as _ _ _ (c.in_err-left.ensures.faults (m.or_tail (place_of c.args.place) ∷ s)))
+pub operand-returns-in_err-right : goal.operand-returns-in_err-right
+operand-returns-in_err-right t c =
+    let old = c.args.self.now in
+    let σ = c.args.signature.now in
+    let j = joint_of c.in-Some.joint in
+    let place = place_of c.more.self c.args.place in
+    let same = same_place old c.more.self c.args.place (ap (λ scope. scope.bound) c.more.invariant.read.scope) in
+    let sign_read = c.in_ok-inner.ensures σ in
+    refusal _ _ _ old _ _ _ c.from_residual-in_err-right.ensures.1
+    (λ s. c.more.invariant.faults s ∙ ap (λ p. fault_of σ c.more.self (m.tail j p ∷ s)) (sym same) ∙ sign_read.faults s
+    ∙ ap (λ n. fault_of σ c.join.new.self (m.operand n (place_of c.join.new.self c.in_ok-inner.inner) ∷ m.again j place ++ s)) (sym c.right.ensures))
+    (λ s. c.in_err-right.ensures (m.again j place ++ s))
 
-pub disjunction-more-init : goal.disjunction-more-init
-disjunction-more-init t c = record {
-  read = first_disjunct c.in_ok-left.ensures.reads;
-  faults = λ s. disjunction_moves c.args.signature.now c.args.self.now (place_of c.args.place) s ∙ c.in_ok-left.ensures.faults (m.or_tail (place_of c.args.place) ∷ s);
-  bytes = c.in_ok-left.ensures.bytes;
-  on = c.in_ok-left.ensures.on;
-}
+pub operand-returns-in_err-left-2 : goal.operand-returns-in_err-left-2
+operand-returns-in_err-left-2 t c =
+    failed _ _ _ c.args.self.now _ _ c.from_residual-in_err-left-2.ensures.1 (λ s. no_memory _ _ c.in_err-left-2.ensures.no_memory)
 
-pub disjunction-returns-in_err-join-clause-faults : goal.disjunction-returns-in_err-join-clause-faults
-disjunction-returns-in_err-join-clause-faults t c = λ s.
-    fails _ _ _ _ _ c.from_residual-in_err-join.ensures.1 (c.more.invariant.faults s)
-    (stopped k.Bar c.more.self (sym c.more-test.ensures) c.args.signature.now _ _ c.in_err-join.ensures.stops (m.or_tail (place_of c.args.place) ∷ s) _ (m.joins ∷ []) refl refl)
+pub operand-returns-then-not-chains : goal.operand-returns-then-not-chains
+operand-returns-then-not-chains t c =
+    let old = c.args.self.now in
+    let σ = c.args.signature.now in
+    let j = joint_of c.in-Some.joint in
+    let place = place_of c.more.self c.args.place in
+    let same = same_place old c.more.self c.args.place (ap (λ scope. scope.bound) c.more.invariant.read.scope) in
+    let sign_read = c.in_ok-inner.ensures σ in
+    let right_read = c.in_ok-right.ensures in
+    record {
+      faults = λ s. c.more.invariant.faults s ∙ ap (λ p. fault_of σ c.more.self (m.tail j p ∷ s)) (sym same) ∙ sign_read.faults s
+          ∙ ap (λ n. fault_of σ c.join.new.self (m.operand n (place_of c.join.new.self c.in_ok-inner.inner) ∷ m.again j place ++ s)) (sym c.right.ensures)
+          ∙ right_read.faults (m.again j place ++ s)
+          ∙ ap (λ u. fault_of σ c.operand-in-more.new.self (u ++ s)) (again_none j place (sym c.if-not-chains.ensures));
+      read = subst (λ n. ReadOperand n σ old c.operand-in-more.new.self c.in_ok-left-2.left) c.in-Some.ensures
+          (joined_read j c.more.invariant.read sign_read.text sign_read.keeps sign_read.bytes (omega (arith, sign_read.on))
+          (subst (λ n. ReadOperand n σ c.join.new.self c.operand-in-more.new.self c.in_ok-right.right) c.right.ensures right_read.read) c.in_ok-left-2.ensures.formula);
+    }
 
-pub disjunction-returns-in_err-right-clause-faults : goal.disjunction-returns-in_err-right-clause-faults
-disjunction-returns-in_err-right-clause-faults t c = λ s.
-    fails _ _ _ _ _ c.from_residual-in_err-right.ensures.1
-    (c.more.invariant.faults s ∙ or_taken c.args.signature.now c.more.self c.join.new.self (place_of c.args.place) s (sym c.more-test.ensures) c.in_ok-join.ensures.takes c.in_ok-join.ensures.joints)
-    (refuses_as _ _ _ (c.in_err-right.ensures.faults (m.or_tail (place_of c.args.place) ∷ s)))
+pub operand-more-smaller : goal.operand-more-smaller
+operand-more-smaller t c =
+    let sign_read = c.in_ok-inner.ensures c.args.signature.now in
+    let seen = signed (joint_of c.in-Some.joint) c.sign.result c.more.self c.more-test.ensures c.sign.ensures in
+    let further = less_seen (sign (joint_of c.in-Some.joint)) c.more.self c.join.new.self seen sign_read.bytes sign_read.on in
+    let behind = kept c.join.new.self c.operand-in-more.new.self c.in_ok-right.ensures.read.bytes c.in_ok-right.ensures.read.on in
+    omega (arith, further, behind)
 
-pub disjunction-conjunction-requires-in-more : goal.disjunction-conjunction-requires-in-more
-disjunction-conjunction-requires-in-more t c =
-    let less = less_room k.Bar c.args.self.now c.more.self c.join.new.self c.more.invariant.bytes c.more.invariant.on (sym c.more-test.ensures) c.in_ok-join.ensures.takes.bytes c.in_ok-join.ensures.on in
-    (omega arith, c.requires.depth)
+pub operand-more-preserved : goal.operand-more-preserved
+operand-more-preserved t c =
+    let old = c.args.self.now in
+    let σ = c.args.signature.now in
+    let j = joint_of c.in-Some.joint in
+    let place = place_of c.more.self c.args.place in
+    let same = same_place old c.more.self c.args.place (ap (λ scope. scope.bound) c.more.invariant.read.scope) in
+    let sign_read = c.in_ok-inner.ensures σ in
+    let right_read = c.in_ok-right.ensures in
+    let chain : chains j ≡ true = sym c.if-not-chains.ensures in
+    record {
+      read = subst (λ n. ReadOperand n σ old c.operand-in-more.new.self c.in_ok-left-2.left) (sym (chain_left j chain))
+          (joined_read j c.more.invariant.read sign_read.text sign_read.keeps sign_read.bytes (omega (arith, sign_read.on))
+          (subst (λ n. ReadOperand n σ c.join.new.self c.operand-in-more.new.self c.in_ok-right.right) c.right.ensures right_read.read) c.in_ok-left-2.ensures.formula);
+      faults = λ s. c.more.invariant.faults s ∙ ap (λ p. fault_of σ c.more.self (m.tail j p ∷ s)) (sym same) ∙ sign_read.faults s
+          ∙ ap (λ n. fault_of σ c.join.new.self (m.operand n (place_of c.join.new.self c.in_ok-inner.inner) ∷ m.again j place ++ s)) (sym c.right.ensures)
+          ∙ right_read.faults (m.again j place ++ s)
+          ∙ ap (λ u. fault_of σ c.operand-in-more.new.self (u ++ s)) (again_more j place chain)
+          ∙ ap (λ p. fault_of σ c.operand-in-more.new.self (m.tail j p ∷ s)) same;
+    }
 
-pub disjunction-more-smaller : goal.disjunction-more-smaller
-disjunction-more-smaller t c =
-    let less = less_room k.Bar c.more.self c.more.self c.join.new.self refl (omega arith) (sym c.more-test.ensures) c.in_ok-join.ensures.takes.bytes c.in_ok-join.ensures.on in
-    let rest = room_kept c.join.new.self c.conjunction-in-more.new.self c.in_ok-right.ensures.bytes c.in_ok-right.ensures.on in
-    omega arith
+pub operand-returns : goal.operand-returns
+operand-returns t c =
+    let σ = c.args.signature.now in
+    let j = joint_of c.in-Some.joint in
+    let bounds = level_bounds j in
+    record {
+      faults = λ s. c.more.invariant.faults s
+          ∙ tail_passes σ c.more.self j (place_of c.args.self.now c.args.place) (ap (λ kind. starts kind (left_of c.more.self)) (sym c.sign.ensures) ∙ sym c.more-test.ensures) s;
+      read = weaker (omega (arith, bounds, c.in-Some.ensures)) c.more.invariant.read;
+    }
 
-pub disjunction-more-preserved : goal.disjunction-more-preserved
-disjunction-more-preserved t c = record {
-  read = next_disjunct c.more.invariant.read (marks k.Bar (sym c.more-test.ensures) c.in_ok-join.ensures.takes) c.in_ok-join.ensures.keeps c.in_ok-right.ensures.reads
-      c.in_ok-left-2.ensures.formula;
-  faults = λ s. c.more.invariant.faults s ∙ or_taken c.args.signature.now c.more.self c.join.new.self (place_of c.args.place) s (sym c.more-test.ensures) c.in_ok-join.ensures.takes c.in_ok-join.ensures.joints ∙ c.in_ok-right.ensures.faults (m.or_tail (place_of c.args.place) ∷ s);
-  bytes = c.in_ok-right.ensures.bytes ∙ c.in_ok-join.ensures.takes.bytes ∙ c.more.invariant.bytes;
-  on = omega (arith, c.more.invariant.on, c.in_ok-join.ensures.on, c.in_ok-right.ensures.on);
-}
+-- ---- what nothing joins
 
-pub disjunction-returns-clause-faults : goal.disjunction-returns-clause-faults
-disjunction-returns-clause-faults t c = λ s. c.more.invariant.faults s ∙ or_passes c.args.signature.now c.more.self (place_of c.args.place) s c.more-test.ensures
+pub unary-returns-in_err-inner : goal.unary-returns-in_err-inner
+unary-returns-in_err-inner t c =
+    failed _ _ _ c.args.self.now _ _ c.from_residual.ensures.1
+    (not_nested k.Tilde c.args.signature.now c.args.self.now c.args.place (sym c.if-sees.ensures) (m.operand 5) [] refl _ c.in_err-inner.ensures.stops)
 
-pub disjunction-returns-clause-reads : goal.disjunction-returns-clause-reads
-disjunction-returns-clause-reads t c = all_disjuncts c.more.invariant.read
+pub unary-operand-requires : goal.unary-operand-requires
+unary-operand-requires t c =
+    let further = less (c.in_ok-inner.ensures.takes (start [])) in
+    (omega (arith, further), (c.in_ok-inner.ensures.depth, (omega arith, omega arith)))
 
-pub disjunction-returns-clause-bytes : goal.disjunction-returns-clause-bytes
-disjunction-returns-clause-bytes t c = c.more.invariant.bytes
+pub unary-returns-in_err-operand : goal.unary-returns-in_err-operand
+unary-returns-in_err-operand t c =
+    let opens = c.in_ok-inner.ensures in
+    refusal _ _ _ c.args.self.now _ _ _ c.from_residual-in_err-operand.ensures.1
+    (nested k.Tilde c.args.signature.now c.args.self.now c.args.place (sym c.if-sees.ensures) (m.operand 5) [] refl opens.takes opens.joints opens.keeps.scope opens.inner)
+    c.in_err-operand.ensures
 
-pub disjunction-returns-clause-on : goal.disjunction-returns-clause-on
-disjunction-returns-clause-on t c = c.more.invariant.on
+pub unary-returns-in_ok-operand : goal.unary-returns-in_ok-operand
+unary-returns-in_ok-operand t c =
+    let old = c.args.self.now in
+    let σ = c.args.signature.now in
+    let opens = c.in_ok-inner.ensures in
+    let takes = opens.takes (start []) in
+    let next : starts k.Tilde (left_of old) ≡ true = sym c.if-sees.ensures in
+    made (m.operand 5 (place_of old c.args.place)) σ old c.negated.result c.negated.ensures.no_memory c.negated.ensures.formula
+    (λ f is. record {
+      faults = λ s. nested k.Tilde σ old c.args.place next (m.operand 5) [] refl opens.takes opens.joints opens.keeps.scope opens.inner s ∙ c.in_ok-operand.ensures.faults s;
+      read = no_read (words_taken k.Tilde next takes) opens.keeps takes.bytes (omega (arith, takes.on)) c.in_ok-operand.ensures.read is;
+    })
 
-pub formula-returns-in_err-left-clause-faults : goal.formula-returns-in_err-left-clause-faults
-formula-returns-in_err-left-clause-faults t c = λ s.
-    fails _ _ _ _ _ c.from_residual.ensures.1 (formula_moves c.args.signature.now c.args.self.now (place_of c.args.place) s) (refuses_as _ _ _ (c.in_err-left.ensures.faults (m.iff_tail (place_of c.args.place) ∷ s)))
+pub unary-returns-in_err-inner-2 : goal.unary-returns-in_err-inner-2
+unary-returns-in_err-inner-2 t c =
+    failed _ _ _ c.args.self.now _ _ c.from_residual-in_err-inner-2.ensures.1
+    (not_nested k.«Exists» c.args.signature.now c.args.self.now c.args.place (sym c.if-sees-2.ensures) m.bound_variable [] refl _ c.in_err-inner-2.ensures.stops)
 
-pub formula-returns-then-not-sees-clause-faults : goal.formula-returns-then-not-sees-clause-faults
-formula-returns-then-not-sees-clause-faults t c = λ s.
-    formula_moves c.args.signature.now c.args.self.now (place_of c.args.place) s ∙ c.in_ok-left.ensures.faults (m.iff_tail (place_of c.args.place) ∷ s) ∙ iff_passes c.args.signature.now c.implication.new.self (place_of c.args.place) s c.if-not-sees.ensures
+pub unary-quantified-requires : goal.unary-quantified-requires
+unary-quantified-requires t c =
+    let further = less (c.in_ok-inner-2.ensures.takes (start [])) in (omega (arith, further), c.in_ok-inner-2.ensures.depth)
 
-pub formula-returns-then-not-sees-clause-reads : goal.formula-returns-then-not-sees-clause-reads
-formula-returns-then-not-sees-clause-reads t c = plain_formula c.args.signature.now c.in_ok-left.ensures.reads
+pub unary-returns-in_ok-inner-2 : goal.unary-returns-in_ok-inner-2
+unary-returns-in_ok-inner-2 t c =
+    let old = c.args.self.now in
+    let σ = c.args.signature.now in
+    let opens = c.in_ok-inner-2.ensures in
+    let takes = opens.takes (start []) in
+    let next : starts k.«Exists» (left_of old) ≡ true = sym c.if-sees-2.ensures in
+    let front = nested k.«Exists» σ old c.args.place next m.bound_variable [] refl opens.takes opens.joints opens.keeps.scope opens.inner in
+    answers_as _ _ _ _ c.quantified.result
+    (λ f read. record {
+      faults = λ s. front s ∙ read.faults s;
+      read = quantified_read exists (words_taken k.«Exists» next takes) opens.keeps takes.bytes (omega (arith, takes.on)) read.read;
+    })
+    (λ e refuses s. refuses_before e (front s) (refuses s)) c.quantified.ensures
 
-pub formula-returns-in_err-take-clause-faults : goal.formula-returns-in_err-take-clause-faults
-formula-returns-in_err-take-clause-faults t c = λ s.
-    fails _ _ _ _ _ c.from_residual-in_err-take.ensures.1 (formula_moves c.args.signature.now c.args.self.now (place_of c.args.place) s ∙ c.in_ok-left.ensures.faults (m.iff_tail (place_of c.args.place) ∷ s))
-    (stopped k.DoubleArrow c.implication.new.self (sym c.if-not-sees.ensures) c.args.signature.now _ _ c.in_err-take.ensures.stops (m.iff_tail (place_of c.args.place) ∷ s) _ [] refl (nothing_more c.implication.new.self.pending))
+pub unary-returns-in_err-inner-3 : goal.unary-returns-in_err-inner-3
+unary-returns-in_err-inner-3 t c =
+    failed _ _ _ c.args.self.now _ _ c.from_residual-in_err-inner-3.ensures.1
+    (not_nested k.Forall c.args.signature.now c.args.self.now c.args.place (sym c.if-sees-3.ensures) m.bound_variable [] refl _ c.in_err-inner-3.ensures.stops)
 
-pub formula-returns-in_err-right-clause-faults : goal.formula-returns-in_err-right-clause-faults
-formula-returns-in_err-right-clause-faults t c = λ s.
-    fails _ _ _ _ _ c.from_residual-in_err-right.ensures.1
-    (formula_moves c.args.signature.now c.args.self.now (place_of c.args.place) s ∙ c.in_ok-left.ensures.faults (m.iff_tail (place_of c.args.place) ∷ s) ∙ took_plain k.DoubleArrow (sym c.if-not-sees.ensures) c.in_ok-take.ensures.takes c.args.signature.now (m.iff_tail (place_of c.args.place) ∷ s) (m.implication (place_of c.args.place) ∷ s) refl refl)
-    (refuses_as _ _ _ (c.in_err-right.ensures.faults s))
+pub unary-quantified-requires-then-sees-3 : goal.unary-quantified-requires-then-sees-3
+unary-quantified-requires-then-sees-3 t c =
+    let further = less (c.in_ok-inner-3.ensures.takes (start [])) in (omega (arith, further), c.in_ok-inner-3.ensures.depth)
 
-pub formula-returns-clause-faults : goal.formula-returns-clause-faults
-formula-returns-clause-faults t c = λ s.
-    made _ _ _ c.joined.ensures.no_memory
-    (formula_moves c.args.signature.now c.args.self.now (place_of c.args.place) s ∙ c.in_ok-left.ensures.faults (m.iff_tail (place_of c.args.place) ∷ s) ∙ took_plain k.DoubleArrow (sym c.if-not-sees.ensures) c.in_ok-take.ensures.takes c.args.signature.now (m.iff_tail (place_of c.args.place) ∷ s) (m.implication (place_of c.args.place) ∷ s) refl refl ∙ c.in_ok-right.ensures.faults s)
+pub unary-returns-in_ok-inner-3 : goal.unary-returns-in_ok-inner-3
+unary-returns-in_ok-inner-3 t c =
+    let old = c.args.self.now in
+    let σ = c.args.signature.now in
+    let opens = c.in_ok-inner-3.ensures in
+    let takes = opens.takes (start []) in
+    let next : starts k.Forall (left_of old) ≡ true = sym c.if-sees-3.ensures in
+    let front = nested k.Forall σ old c.args.place next m.bound_variable [] refl opens.takes opens.joints opens.keeps.scope opens.inner in
+    answers_as _ _ _ _ c.quantified-then-sees-3.result
+    (λ f read. record {
+      faults = λ s. front s ∙ read.faults s;
+      read = quantified_read forall (words_taken k.Forall next takes) opens.keeps takes.bytes (omega (arith, takes.on)) read.read;
+    })
+    (λ e refuses s. refuses_before e (front s) (refuses s)) c.quantified-then-sees-3.ensures
 
-pub formula-returns-clause-reads : goal.formula-returns-clause-reads
-formula-returns-clause-reads t c =
-    if_made _ _ _ c.joined.ensures.formula
-    (λ q f. both_equal c.args.signature.now c.in_ok-left.ensures.reads (marks k.DoubleArrow (sym c.if-not-sees.ensures) c.in_ok-take.ensures.takes) c.in_ok-take.ensures.keeps c.in_ok-right.ensures.reads f)
+pub unary-returns-in_err-inner-4 : goal.unary-returns-in_err-inner-4
+unary-returns-in_err-inner-4 t c =
+    let place = c.args.place in
+    failed _ _ _ c.args.self.now _ _ c.from_residual-in_err-inner-4.ensures.1
+    (not_nested k.LeftParen c.args.signature.now c.args.self.now place (sym c.if-sees-4.ensures) (m.operand 1) (m.plain k.RightParen ∷ []) refl _ c.in_err-inner-4.ensures.stops)
 
-pub implication-returns-in_err-left-clause-faults : goal.implication-returns-in_err-left-clause-faults
-implication-returns-in_err-left-clause-faults t c = λ s.
-    fails _ _ _ _ _ c.from_residual.ensures.1 (implication_moves c.args.signature.now c.args.self.now (place_of c.args.place) s) (refuses_as _ _ _ (c.in_err-left.ensures.faults (m.imp_tail (place_of c.args.place) ∷ s)))
+pub unary-operand-requires-then-sees-4 : goal.unary-operand-requires-then-sees-4
+unary-operand-requires-then-sees-4 t c =
+    let further = less (c.in_ok-inner-4.ensures.takes (start [])) in
+    (omega (arith, further), (c.in_ok-inner-4.ensures.depth, (omega arith, omega arith)))
 
-pub implication-returns-then-not-sees-clause-faults : goal.implication-returns-then-not-sees-clause-faults
-implication-returns-then-not-sees-clause-faults t c = λ s.
-    implication_moves c.args.signature.now c.args.self.now (place_of c.args.place) s ∙ c.in_ok-left.ensures.faults (m.imp_tail (place_of c.args.place) ∷ s) ∙ imp_passes c.args.signature.now c.disjunction.new.self (place_of c.args.place) s c.if-not-sees.ensures
+pub unary-returns-in_err-formula : goal.unary-returns-in_err-formula
+unary-returns-in_err-formula t c =
+    let opens = c.in_ok-inner-4.ensures in
+    refusal _ _ _ c.args.self.now _ _ _ c.from_residual-in_err-formula.ensures.1
+    (nested k.LeftParen c.args.signature.now c.args.self.now c.args.place (sym c.if-sees-4.ensures) (m.operand 1) (m.plain k.RightParen ∷ []) refl opens.takes opens.joints opens.keeps.scope
+    opens.inner)
+    (λ s. c.in_err-formula.ensures (m.plain k.RightParen ∷ s))
 
-pub implication-returns-then-not-sees-clause-reads : goal.implication-returns-then-not-sees-clause-reads
-implication-returns-then-not-sees-clause-reads t c = plain_implication c.args.signature.now c.in_ok-left.ensures.reads
+pub unary-returns-in_err-expect : goal.unary-returns-in_err-expect
+unary-returns-in_err-expect t c =
+    let σ = c.args.signature.now in
+    let opens = c.in_ok-inner-4.ensures in
+    refusal _ _ _ c.args.self.now _ _ _ c.from_residual-in_err-expect.ensures.1
+    (λ s. nested k.LeftParen σ c.args.self.now c.args.place (sym c.if-sees-4.ensures) (m.operand 1) (m.plain k.RightParen ∷ []) refl opens.takes opens.joints opens.keeps.scope opens.inner s
+    ∙ c.in_ok-formula.ensures.faults (m.plain k.RightParen ∷ s))
+    (c.in_err-expect.ensures σ)
 
-pub implication-returns-in_err-inner-clause-faults : goal.implication-returns-in_err-inner-clause-faults
-implication-returns-in_err-inner-clause-faults t c = λ s.
-    fails _ _ _ _ _ c.from_residual-in_err-inner.ensures.1 (implication_moves c.args.signature.now c.args.self.now (place_of c.args.place) s ∙ c.in_ok-left.ensures.faults (m.imp_tail (place_of c.args.place) ∷ s))
-    (stopped k.Arrow c.disjunction.new.self (sym c.if-not-sees.ensures) c.args.signature.now _ _ c.in_err-inner.ensures.stops (m.imp_tail (place_of c.args.place) ∷ s) _ (m.opens (suc c.args.place.depth) ∷ []) refl refl)
+pub unary-returns-in_ok-expect : goal.unary-returns-in_ok-expect
+unary-returns-in_ok-expect t c =
+    let old = c.args.self.now in
+    let σ = c.args.signature.now in
+    let opens = c.in_ok-inner-4.ensures in
+    let takes = opens.takes (start []) in
+    let last = c.in_ok-expect.ensures σ in
+    let next : starts k.LeftParen (left_of old) ≡ true = sym c.if-sees-4.ensures in
+    record {
+      faults = λ s. nested k.LeftParen σ old c.args.place next (m.operand 1) (m.plain k.RightParen ∷ []) refl opens.takes opens.joints opens.keeps.scope opens.inner s
+          ∙ c.in_ok-formula.ensures.faults (m.plain k.RightParen ∷ s) ∙ last.faults s;
+      read = group_read (words_taken k.LeftParen next takes) opens.keeps takes.bytes (omega (arith, takes.on)) c.in_ok-formula.ensures.read last;
+    }
 
-pub implication-implication-requires : goal.implication-implication-requires
-implication-implication-requires t c =
-    let less = less_room k.Arrow c.args.self.now c.disjunction.new.self c.open.new.self c.in_ok-left.ensures.bytes c.in_ok-left.ensures.on (sym c.if-not-sees.ensures) c.in_ok-inner.ensures.takes.bytes c.in_ok-inner.ensures.on in
-    (omega arith, c.in_ok-inner.ensures.inner.1)
+-- ---- the variables of a quantifier and its body
 
-pub implication-returns-in_err-right-clause-faults : goal.implication-returns-in_err-right-clause-faults
-implication-returns-in_err-right-clause-faults t c = λ s.
-    fails _ _ _ _ _ c.from_residual-in_err-right.ensures.1
-    (implication_moves c.args.signature.now c.args.self.now (place_of c.args.place) s ∙ c.in_ok-left.ensures.faults (m.imp_tail (place_of c.args.place) ∷ s) ∙ arrow_taken c.args.signature.now c.disjunction.new.self c.open.new.self (place_of c.args.place) s (sym c.if-not-sees.ensures) c.in_ok-inner.ensures.takes (place_of c.in_ok-inner.inner) c.in_ok-inner.ensures.inner.0)
-    (refuses_as _ _ _ (c.in_err-right.ensures.faults s))
+pub quantified-returns-then-not-sees : goal.quantified-returns-then-not-sees
+quantified-returns-then-not-sees t c = λ s.
+    let old = c.args.self.now in
+    let x = m.bound_variable (place_of old c.args.place) in
+    refused_as _ _ c.fault.ensures (refused_here c.args.signature.now old x refl (blocked k.Variable old x (sym c.if-not-sees.ensures) (λ u no. rw no refl)) s)
 
-pub implication-returns-clause-faults : goal.implication-returns-clause-faults
-implication-returns-clause-faults t c = λ s.
-    made _ _ _ c.joined.ensures.no_memory
-    (implication_moves c.args.signature.now c.args.self.now (place_of c.args.place) s ∙ c.in_ok-left.ensures.faults (m.imp_tail (place_of c.args.place) ∷ s) ∙ arrow_taken c.args.signature.now c.disjunction.new.self c.open.new.self (place_of c.args.place) s (sym c.if-not-sees.ensures) c.in_ok-inner.ensures.takes (place_of c.in_ok-inner.inner) c.in_ok-inner.ensures.inner.0 ∙ c.in_ok-right.ensures.faults s)
-
-pub implication-returns-clause-reads : goal.implication-returns-clause-reads
-implication-returns-clause-reads t c =
-    if_made _ _ _ c.joined.ensures.formula
-    (λ q f. both_imply c.args.signature.now c.in_ok-left.ensures.reads (marks k.Arrow (sym c.if-not-sees.ensures) c.in_ok-inner.ensures.takes) c.in_ok-inner.ensures.keeps
-    (under g.implication c.args.signature.now (place_of c.in_ok-inner.inner) (place_of c.args.place) c.in_ok-inner.ensures.inner.0 c.in_ok-right.ensures.reads) f)
-
-pub unary-unary-requires : goal.unary-unary-requires
-unary-unary-requires t c =
-    let less = less_room k.Tilde c.args.self.now c.args.self.now c.open.new.self refl (omega arith) (sym c.if-sees.ensures) c.in_ok-inner.ensures.takes.bytes c.in_ok-inner.ensures.on in
-    (omega arith, c.in_ok-inner.ensures.inner.1)
-
-pub unary-returns-in_ok-unary-clause-reads : goal.unary-returns-in_ok-unary-clause-reads
-unary-returns-in_ok-unary-clause-reads t c =
-    if_made _ _ _ c.negated.ensures.formula
-    (λ q f. not_read c.args.signature.now (marks k.Tilde (sym c.if-sees.ensures) c.in_ok-inner.ensures.takes) c.in_ok-inner.ensures.keeps
-    (under g.unary c.args.signature.now (place_of c.in_ok-inner.inner) (place_of c.args.place) c.in_ok-inner.ensures.inner.0 c.in_ok-unary.ensures.reads) f)
-
-pub unary-returns-in_ok-variables-clause-reads : goal.unary-returns-in_ok-variables-clause-reads
-unary-returns-in_ok-variables-clause-reads t c =
-    if_made _ _ _ c.existential.ensures.formula
-    (λ q f. exists_read (marks k.«Exists» (sym c.if-sees-2.ensures) c.in_ok-inner-2.ensures.takes) c.in_ok-inner-2.ensures.keeps
-    (quantified_under c.args.signature.now (place_of c.in_ok-inner-2.inner) (place_of c.args.place) c.in_ok-inner-2.ensures.inner.0 c.in_ok-variables.ensures.reads)
-    (f ∙ ap (λ l. behind form.exists l (form_of c.in_ok-variables.body)) c.deref.ensures.value))
-
-pub unary-returns-in_ok-variables-2-clause-reads : goal.unary-returns-in_ok-variables-2-clause-reads
-unary-returns-in_ok-variables-2-clause-reads t c =
-    if_made _ _ _ c.universal.ensures.formula
-    (λ q f. forall_read (marks k.Forall (sym c.if-sees-3.ensures) c.in_ok-inner-3.ensures.takes) c.in_ok-inner-3.ensures.keeps
-    (quantified_under c.args.signature.now (place_of c.in_ok-inner-3.inner) (place_of c.args.place) c.in_ok-inner-3.ensures.inner.0 c.in_ok-variables-2.ensures.reads)
-    (f ∙ ap (λ l. behind form.forall l (form_of c.in_ok-variables-2.body)) c.deref-then-sees-3.ensures.value))
-
-pub grouped-formula-requires : goal.grouped-formula-requires
-grouped-formula-requires t c =
-    let less = less_room k.LeftParen c.args.self.now c.args.self.now c.open.new.self refl (omega arith) c.requires.starts c.in_ok-inner.ensures.takes.bytes c.in_ok-inner.ensures.on in
-    (omega arith, c.in_ok-inner.ensures.inner.1)
-
-pub grouped-returns-clause-reads : goal.grouped-returns-clause-reads
-grouped-returns-clause-reads t c =
-    group_read c.args.signature.now (marks k.LeftParen c.requires.starts c.in_ok-inner.ensures.takes) c.in_ok-inner.ensures.keeps
-    (under g.formula c.args.signature.now (place_of c.in_ok-inner.inner) (place_of c.args.place) c.in_ok-inner.ensures.inner.0 c.in_ok-formula.ensures.reads) c.in_ok-expect.ensures.reads c.in_ok-expect.ensures.keeps refl
+pub quantified-returns-in_err-bind : goal.quantified-returns-in_err-bind
+quantified-returns-in_err-bind t c =
+    let old = c.args.self.now in
+    failed _ _ _ old _ _ c.from_residual.ensures.1
+    (not_bound c.args.signature.now c.args.place old (sym c.if-not-sees.ensures) (m.bound_variable (place_of old c.args.place)) _ c.in_err-bind.ensures.stops refl)
 
 pub quantified-more-init : goal.quantified-more-init
 quantified-more-init t c =
-    let next = text_ahead c.args.self.now.bytes (left_of c.args.self.now) in
-    let bound = copied_and_one _ _ c.args.place.bound.now _ next c.new-bound.ensures.items c.in_ok-extend_from_slice.ensures.items c.in_ok-bind.ensures.bound in
-    record {
-      read = first_bound next (words k.Variable c.in_ok-bind.ensures.starts c.in_ok-bind.ensures.takes) c.in_ok-bind.ensures.names c.in_ok-bind.ensures.loose bound
-          c.in_ok-bind.ensures.number c.new-variables.ensures.items c.in_ok-push.ensures.items;
-      faults = λ s. first_binds c.args.signature.now c.args.self.now c.bind.new.self (place_of c.args.place) s c.in_ok-bind.ensures.starts c.in_ok-bind.ensures.takes c.in_ok-bind.ensures.joints _ bound;
-      bytes = c.in_ok-bind.ensures.takes.bytes;
-      on = c.in_ok-bind.ensures.on;
-      room = seen_within k.Variable c.args.self.now c.in_ok-bind.ensures.starts;
-    }
+    let bound = c.in_ok-bind.ensures in
+    record { binds = first_bound c.args.signature.now c.args.place c.args.self.now c.bind.new.self (sym c.if-not-sees.ensures) bound.takes bound.joints bound.scope bound.loose }
+
+pub quantified-returns-in_err-bind-2 : goal.quantified-returns-in_err-bind-2
+quantified-returns-in_err-bind-2 t c =
+    refusal _ _ _ c.args.self.now _ _ _ c.from_residual-in_err-bind-2.ensures.1 c.more.invariant.binds.faults
+    (not_bound c.args.signature.now c.args.place c.more.self (sym c.more-test.ensures) (m.more_variables (place_of c.more.self c.args.place)) _ c.in_err-bind-2.ensures.stops refl)
+
+pub quantified-more-smaller : goal.quantified-more-smaller
+quantified-more-smaller t c = less (c.in_ok-bind-2.ensures.takes [])
 
 pub quantified-more-preserved : goal.quantified-more-preserved
 quantified-more-preserved t c =
-    let next = text_ahead c.more.self.bytes (left_of c.more.self) in
-    let place : m.Place = record { depth = c.args.place.depth; bound = texts_of c.more.bound.items; closed = c.args.place.closed } in
+    let bound = c.in_ok-bind-2.ensures in
     record {
-      read = next_bound next c.more.invariant.read (words k.Variable c.in_ok-bind-2.ensures.starts c.in_ok-bind-2.ensures.takes) c.in_ok-bind-2.ensures.names
-          c.in_ok-bind-2.ensures.loose c.in_ok-bind-2.ensures.bound c.in_ok-bind-2.ensures.number c.in_ok-push-2.ensures.items;
-      faults = λ s. c.more.invariant.faults s
-          ∙ next_binds c.args.signature.now c.more.self c.bind-in-more.new.self place s c.in_ok-bind-2.ensures.starts c.in_ok-bind-2.ensures.takes c.in_ok-bind-2.ensures.joints _
-          c.in_ok-bind-2.ensures.bound;
-      bytes = c.in_ok-bind-2.ensures.takes.bytes ∙ c.more.invariant.bytes;
-      on = omega (arith, c.more.invariant.on, c.in_ok-bind-2.ensures.on);
-      room = c.more.invariant.room;
+      binds = next_bound c.args.signature.now c.args.place c.more.self c.bind-in-more.new.self (sym c.more-test.ensures) bound.takes bound.joints bound.scope c.more.invariant.binds bound.loose;
     }
 
-pub quantified-returns-in_err-bind-2-clause-faults : goal.quantified-returns-in_err-bind-2-clause-faults
-quantified-returns-in_err-bind-2-clause-faults t c = λ s.
-    fails _ _ _ _ _ c.from_residual-in_err-bind-2.ensures.1 (c.more.invariant.faults s ∙ variable_next c.args.signature.now c.more.self (record { depth = c.args.place.depth; bound = texts_of c.more.bound.items; closed = c.args.place.closed }) s c.more-test.ensures)
-    (c.in_err-bind-2.ensures.refused s (record { depth = c.args.place.depth; bound = texts_of c.more.bound.items; closed = c.args.place.closed }))
+pub quantified-returns-then-not-sees-2 : goal.quantified-returns-then-not-sees-2
+quantified-returns-then-not-sees-2 t c = λ s.
+    let x = m.more_variables (place_of c.more.self c.args.place) in
+    refused_as _ _ c.fault-then-not-sees-2.ensures
+    (c.more.invariant.binds.faults s
+    ∙ refused_here c.args.signature.now c.more.self x refl (variables_blocked c.more.self (place_of c.more.self c.args.place) (sym c.more-test.ensures) (sym c.if-not-sees-2.ensures)) s)
 
-pub quantified-more-smaller : goal.quantified-more-smaller
-quantified-more-smaller t c =
-    less_room k.Variable c.more.self c.more.self c.bind-in-more.new.self refl (omega arith) (sym c.more-test.ensures) c.in_ok-bind-2.ensures.takes.bytes c.in_ok-bind-2.ensures.on
+pub quantified-returns-in_err-take : goal.quantified-returns-in_err-take
+quantified-returns-in_err-take t c =
+    let place = place_of c.more.self c.args.place in
+    refusal _ _ _ c.args.self.now _ _ _ c.from_residual-in_err-take.ensures.1 c.more.invariant.binds.faults
+    (stopped_plain k.Colon c.more.self (sym c.if-not-sees-2.ensures) c.args.signature.now _ c.in_err-take.ensures.stops (m.more_variables place) (m.operand 5 place ∷ []) refl)
 
-pub quantified-returns-in_err-expect-clause-faults : goal.quantified-returns-in_err-expect-clause-faults
-quantified-returns-in_err-expect-clause-faults t c = λ s.
-    fails _ _ _ _ _ c.from_residual-in_err-expect.ensures.1 (c.more.invariant.faults s ∙ colon_next c.args.signature.now c.more.self (record { depth = c.args.place.depth; bound = texts_of c.more.bound.items; closed = c.args.place.closed }) s c.more-test.ensures)
-    (refuses_as _ _ _ (c.in_err-expect.ensures.faults c.args.signature.now (m.unary (record { depth = c.args.place.depth; bound = texts_of c.more.bound.items; closed = c.args.place.closed }) ∷ s)))
+pub quantified-operand-requires : goal.quantified-operand-requires
+quantified-operand-requires t c =
+    let further = less c.in_ok-take.ensures.takes in
+    (omega (arith, further, c.more.invariant.binds.less), (c.requires, (omega arith, omega arith)))
 
-pub quantified-unary-requires : goal.quantified-unary-requires
-quantified-unary-requires t c =
-    let less = less_from c.args.self.now c.more.self c.expect.new.self c.more.invariant.bytes c.more.invariant.on c.more.invariant.room c.in_ok-expect.ensures.bytes (omega (arith, c.in_ok-expect.ensures.on)) in
-    (omega arith, c.requires.depth)
+pub quantified-returns-in_err-body : goal.quantified-returns-in_err-body
+quantified-returns-in_err-body t c =
+    let took = c.in_ok-take.ensures in
+    refusal _ _ _ c.args.self.now _ _ _ c.from_residual-in_err-body.ensures.1
+    (λ s. c.more.invariant.binds.faults s
+    ∙ colon_taken c.args.signature.now c.args.place c.more.self c.take.new.self (sym c.if-not-sees-2.ensures) took.takes took.keeps took.joints s)
+    c.in_err-body.ensures
 
-pub quantified-returns-in_err-body-clause-faults : goal.quantified-returns-in_err-body-clause-faults
-quantified-returns-in_err-body-clause-faults t c = λ s.
-    fails _ _ _ _ _ c.from_residual-in_err-body.ensures.1
-    (c.more.invariant.faults s ∙ colon_next c.args.signature.now c.more.self (record { depth = c.args.place.depth; bound = texts_of c.more.bound.items; closed = c.args.place.closed }) s c.more-test.ensures ∙ c.in_ok-expect.ensures.faults c.args.signature.now (m.unary (record { depth = c.args.place.depth; bound = texts_of c.more.bound.items; closed = c.args.place.closed }) ∷ s)
-    ∙ ap (λ l. fault_of c.args.signature.now c.expect.new.self (m.unary (record { depth = c.args.place.depth; bound = texts_of l; closed = c.args.place.closed }) ∷ s)) (sym c.deref.ensures.value))
-    (refuses_as _ _ _ (c.in_err-body.ensures.faults s))
+pub quantified-bound_behind-requires : goal.quantified-bound_behind-requires
+quantified-bound_behind-requires t c =
+    let outer = c.depth-outer.ensures ∙ ap (λ (i : Input). length i.scope.bound) c.self.view_is in
+    subst (λ (i : Input). c.depth-outer.result ≤ length i.scope.bound) (sym c.self-2.view_is)
+    (outer_within outer c.more.invariant.binds c.in_ok-take.ensures.keeps c.in_ok-body.ensures.read)
 
-pub quantified-returns-clause-faults : goal.quantified-returns-clause-faults
-quantified-returns-clause-faults t c = λ s.
-    c.more.invariant.faults s ∙ colon_next c.args.signature.now c.more.self (record { depth = c.args.place.depth; bound = texts_of c.more.bound.items; closed = c.args.place.closed }) s c.more-test.ensures ∙ c.in_ok-expect.ensures.faults c.args.signature.now (m.unary (record { depth = c.args.place.depth; bound = texts_of c.more.bound.items; closed = c.args.place.closed }) ∷ s)
-    ∙ ap (λ l. fault_of c.args.signature.now c.expect.new.self (m.unary (record { depth = c.args.place.depth; bound = texts_of l; closed = c.args.place.closed }) ∷ s)) (sym c.deref.ensures.value) ∙ c.in_ok-body.ensures.faults s
+pub quantified-returns-in_err-formula : goal.quantified-returns-in_err-formula
+quantified-returns-in_err-formula t c =
+    failed _ _ _ c.args.self.now _ _ c.from_residual-in_err-formula.ensures.1 (λ s. no_memory _ _ c.in_err-formula.ensures.no_memory)
 
-pub quantified-returns-clause-reads : goal.quantified-returns-clause-reads
-quantified-returns-clause-reads t c =
-    body_read c.more.invariant.read c.in_ok-expect.ensures.reads c.in_ok-expect.ensures.keeps
-    (subst (λ l. ReadsFormula g.unary c.args.signature.now (texts_of l) c.expect.new.self c.unary.new.self c.in_ok-body.body) c.deref.ensures.value c.in_ok-body.ensures.reads)
-
-pub quantified-returns-clause-bytes : goal.quantified-returns-clause-bytes
-quantified-returns-clause-bytes t c = c.in_ok-body.ensures.bytes ∙ c.in_ok-expect.ensures.bytes ∙ c.more.invariant.bytes
-
-pub quantified-returns-clause-on : goal.quantified-returns-clause-on
-quantified-returns-clause-on t c = omega (arith, c.more.invariant.on, c.in_ok-expect.ensures.on, c.in_ok-body.ensures.on)
+pub quantified-returns : goal.quantified-returns
+quantified-returns t c =
+    let σ = c.args.signature.now in
+    let took = c.in_ok-take.ensures in
+    let last = c.self-2.inside in
+    let outer = c.depth-outer.result in
+    record {
+      faults = λ s. c.more.invariant.binds.faults s
+          ∙ colon_taken σ c.args.place c.more.self c.take.new.self (sym c.if-not-sees-2.ensures) took.takes took.keeps took.joints s
+          ∙ c.in_ok-body.ensures.faults s ∙ ap (λ (i : Input). fault_of σ i s) (sym c.self-2.view_is);
+      read = body_read (quantifier_of c.args.quantifier) outer c.bound_behind.result.now c.more.invariant.binds
+          (words_taken k.Colon (sym c.if-not-sees-2.ensures) took.takes) took.keeps took.takes.bytes (omega (arith, took.takes.on)) c.in_ok-body.ensures.read
+          (c.depth-outer.ensures ∙ ap (λ (i : Input). length i.scope.bound) c.self.view_is)
+          (λ more. c.bound_behind.ensures more ∙ ap (λ (i : Input). map (number_in (i.scope.names ++ more)) (drop outer i.scope.bound)) c.self-2.view_is)
+          c.in_ok-formula.ensures.formula _
+          (ap (λ (scope : Scope). record { bytes = last.bytes.now; at = last.at; pending = last.pending; joints = last.joints; scope = scope; loose = last.loose }) c.release.ensures
+          ∙ ap (λ (i : Input). record i { scope = record { names = i.scope.names; bound = take outer i.scope.bound } }) c.self-2.view_is);
+    }

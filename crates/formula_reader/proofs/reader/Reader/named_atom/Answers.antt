@@ -1,79 +1,93 @@
-use Rattle.std.proofs.Common.{[], ◌∷◌, refl, sym, ap, ◌∙◌}
-use Rattle.tree_model.specs.declared.tree.Symbol.TheVariants.{Named}
+use Rattle.std.proofs.Common.{◌∷◌, [], refl, sym, ap, ◌∙◌, arith}
 use Rattle.formula_ast.proofs.Ties.{call_form}
-use Rattle.formula_ast.specs.declared.formula.Formula.TheVariants as formula
+use Rattle.formula_ast.specs.Forms as form
+use Rattle.formula_ast.specs.Terms.{list_of}
+use Rattle.formula_ast.specs.declared.term.Term.TheVariants as rust
 use Rattle.formula_ast.specs.declared.token.TokenKind.TheVariants as k
-use Rattle.formula_ast.specs.declared.term.Term.TheVariants as term
-use Rattle.formula_grammar.specs.Grammar as g
+use Rattle.formula_grammar.specs.Written.{named}
+use Rattle.formula_grammar.specs.Words.{word}
 use Rattle.formula_grammar.specs.Machine as m
-use Rattle.formula_grammar.specs.Meaning.{place_in}
-use Rattle.formula_reader.specs.Input.{left_of, words_left, text_ahead, place_of, texts_of}
-use Rattle.formula_reader.proofs.Steps.{words, stopped, exits_with, refuses_as, refuses_before}
-use Rattle.formula_reader.proofs.TermReading.{reads_named}
-use Rattle.formula_reader.proofs.AtomFaults.{named_starts, compares_behind, passes_tail}
-use Rattle.formula_reader.proofs.AtomReading.{reads_compared, reads_behind, reads_call}
+use Rattle.formula_grammar.specs.Checks.{check}
+use Rattle.formula_reader.specs.Input.{words_left, text_ahead, environment, place_of}
+use Rattle.formula_reader.specs.Faults.{fault_of}
+use Rattle.formula_reader.proofs.Steps.{words_taken, stopped_in, skipped_in, failed, refusal}
+use Rattle.formula_reader.proofs.Reading.{complains, same_place}
+use Rattle.formula_reader.proofs.TermReading.{made_headed, headed_read}
+use Rattle.formula_reader.proofs.AtomReading.{name_begins, compares_behind, comparison_behind, compared_read, tail_blocked, call_read}
 use Rattle.formula_reader.proofs.reader.Reader.named_atom.Goals as goal
 
-pub returns-in_err-name-clause-faults : goal.returns-in_err-name-clause-faults
-returns-in_err-name-clause-faults c = λ s.
-    exits_with _ c.in_err-name.field-0.0 c.from_residual.ensures.1 _ _
-    (stopped k.Name c.args.self.now c.requires.starts c.args.signature.now _ c.in_err-name.field-0.0 c.in_err-name.ensures.stops (m.unary (place_of c.args.place) ∷ s) _ (m.begins_atom _ ∷ []) refl refl)
+pub returns-in_err-take : goal.returns-in_err-take
+returns-in_err-take c =
+    let old = c.args.self.now in
+    let place = place_of old c.args.place in
+    failed _ _ _ c.args.self.now _ _ c.from_residual.ensures.1
+    (stopped_in k.Name old c.requires.starts _ _ c.in_err-take.ensures.stops (m.operand 5 place) (m.begins_atom (text_ahead old))
+    (m.arguments (named (text_ahead old)) place ∷ m.name_tail (text_ahead old) place ∷ []) refl
+    (c.begins_atom.ensures old.joints ∙ ap (λ f. check (environment c.args.signature.now old.joints) (m.begins_atom f)) c.text-name.ensures))
 
-pub returns-in_err-arguments-clause-faults : goal.returns-in_err-arguments-clause-faults
-returns-in_err-arguments-clause-faults c = λ s.
-    exits_with _ c.in_err-arguments.field-0.0 c.from_residual-in_err-arguments.ensures.1 _ _
-    (refuses_before c.in_err-arguments.field-0.0 _ _
-    (named_starts c.args.signature.now c.args.self.now c.atom_head.new.self (place_of c.args.place) c.in_ok-name.name.now c.requires.starts c.in_ok-name.ensures.takes c.in_ok-name.ensures.name s)
-    (refuses_as c.in_err-arguments.field-0.0 _ _ (c.in_err-arguments.ensures.faults (m.name_tail c.in_ok-name.name.now (place_of c.args.place) ∷ s))))
+pub returns-in_err-arguments : goal.returns-in_err-arguments
+returns-in_err-arguments c =
+    let old = c.args.self.now in
+    let took = c.in_ok-take.ensures in
+    refusal _ _ _ c.args.self.now _ _ _ c.from_residual-in_err-arguments.ensures.1
+    (name_begins c.args.signature.now c.args.place old c.take.new.self c.text-name.result.now c.requires.starts c.text-name.ensures took.takes (c.begins_atom.ensures old.joints) took.joints took.keeps)
+    (λ s. c.in_err-arguments.ensures (m.name_tail c.text-name.result.now (place_of old c.args.place) ∷ s))
 
-pub returns-in_err-comparison-clause-faults : goal.returns-in_err-comparison-clause-faults
-returns-in_err-comparison-clause-faults c = λ s.
-    exits_with _ c.in_err-comparison.field-0.0 c.from_residual-in_err-comparison.ensures.1 _ _
-    (refuses_before c.in_err-comparison.field-0.0 _ _
-    (named_starts c.args.signature.now c.args.self.now c.atom_head.new.self (place_of c.args.place) c.in_ok-name.name.now c.requires.starts c.in_ok-name.ensures.takes c.in_ok-name.ensures.name s
-    ∙ c.in_ok-arguments.ensures.faults (m.name_tail c.in_ok-name.name.now (place_of c.args.place) ∷ s)
-    ∙ compares_behind c.args.signature.now c.arguments.new.self c.complain.new.self c.in_ok-name.name.now (place_of c.args.place) c.check_compares-wrong.result
-    (sym c.if-sees_comparison.ensures) c.complain.ensures c.check_compares-wrong.ensures s)
-    (refuses_as c.in_err-comparison.field-0.0 _ _ (c.in_err-comparison.ensures.faults s)))
-
-pub returns-in_ok-comparison-clause-faults : goal.returns-in_ok-comparison-clause-faults
-returns-in_ok-comparison-clause-faults c = λ s.
-    named_starts c.args.signature.now c.args.self.now c.atom_head.new.self (place_of c.args.place) c.in_ok-name.name.now c.requires.starts c.in_ok-name.ensures.takes c.in_ok-name.ensures.name s
-    ∙ c.in_ok-arguments.ensures.faults (m.name_tail c.in_ok-name.name.now (place_of c.args.place) ∷ s)
-    ∙ compares_behind c.args.signature.now c.arguments.new.self c.complain.new.self c.in_ok-name.name.now (place_of c.args.place) c.check_compares-wrong.result
-    (sym c.if-sees_comparison.ensures) c.complain.ensures c.check_compares-wrong.ensures s
-    ∙ c.in_ok-comparison.ensures.faults s
-
-pub returns-in_ok-comparison-clause-reads : goal.returns-in_ok-comparison-clause-reads
-returns-in_ok-comparison-clause-reads c =
+pub returns-in_err-comparer : goal.returns-in_err-comparer
+returns-in_err-comparer c =
+    let old = c.args.self.now in
     let σ = c.args.signature.now in
-    let bound = texts_of c.args.place.bound.now in
-    let read = c.in_ok-name.ensures in
-    let word = words k.Name c.requires.starts read.takes in
-    reads_compared σ bound c.args.self.now c.arguments.new.self c.comparison.new.self
-    (term.App (Named c.place_in-number.result) c.in_ok-arguments.arguments) c.in_ok-comparison.field-0 c.compared.result
-    (reads_named σ bound c.args.self.now c.atom_head.new.self c.arguments.new.self (text_ahead c.args.self.now.bytes (left_of c.args.self.now))
-    c.place_in-number.result c.in_ok-arguments.arguments word read.keeps.names read.keeps.loose c.in_ok-arguments.ensures.reads
-    (c.place_in-number.ensures ∙ ap (place_in σ) read.name))
-    (λ d s e. g.is_named_atom refl (word _ (c.in_ok-arguments.ensures.reads.reads _ (g.some_tail e))))
-    (reads_behind σ bound c.arguments.new.self c.complain.new.self c.comparison.new.self c.in_ok-comparison.field-0
-    (ap words_left c.complain.ensures) (ap (λ i. i.names) c.complain.ensures) (ap (λ i. i.loose) c.complain.ensures) c.in_ok-comparison.ensures.reads)
-    c.compared.ensures
+    let name = c.text-name.result.now in
+    let took = c.in_ok-take.ensures in
+    let left = c.in_ok-arguments.ensures in
+    let place = place_of old c.args.place in
+    let said = complains c.arguments.new.self c.complain.new.self c.compares.result c.complain.ensures in
+    refusal _ _ _ c.args.self.now _ _ _ c.from_residual-in_err-comparer.ensures.1
+    (λ s. name_begins σ c.args.place old c.take.new.self name c.requires.starts c.text-name.ensures took.takes (c.begins_atom.ensures old.joints) took.joints took.keeps s
+    ∙ left.faults (m.name_tail name place ∷ s)
+    ∙ compares_behind σ c.arguments.new.self c.complain.new.self name place (sym c.if-sees_comparison.ensures) c.complain.ensures (c.compares.ensures c.arguments.new.self.joints) s
+    ∙ ap (λ p. fault_of σ c.complain.new.self (m.comparison p ∷ s))
+    (sym (same_place old c.complain.new.self c.args.place
+    (ap (λ scope. scope.bound) said.keeps.scope ∙ ap (λ scope. scope.bound) left.read.scope ∙ ap (λ scope. scope.bound) took.keeps.scope))))
+    c.in_err-comparer.ensures
 
-pub returns-else-sees_comparison-clause-faults : goal.returns-else-sees_comparison-clause-faults
-returns-else-sees_comparison-clause-faults c = λ s.
-    named_starts c.args.signature.now c.args.self.now c.atom_head.new.self (place_of c.args.place) c.in_ok-name.name.now c.requires.starts c.in_ok-name.ensures.takes c.in_ok-name.ensures.name s
-    ∙ c.in_ok-arguments.ensures.faults (m.name_tail c.in_ok-name.name.now (place_of c.args.place) ∷ s)
-    ∙ passes_tail c.args.signature.now c.arguments.new.self c.complain-else-sees_comparison.new.self c.in_ok-name.name.now (place_of c.args.place) c.check_stands_alone-wrong.result
-    (sym c.if-sees_comparison.ensures) c.complain-else-sees_comparison.ensures c.check_stands_alone-wrong.ensures s
+pub returns-in_ok-comparer : goal.returns-in_ok-comparer
+returns-in_ok-comparer c =
+    let old = c.args.self.now in
+    let σ = c.args.signature.now in
+    let name = c.text-name.result.now in
+    let took = c.in_ok-take.ensures in
+    let left = c.in_ok-arguments.ensures in
+    let place = place_of old c.args.place in
+    let said = complains c.arguments.new.self c.complain.new.self c.compares.result c.complain.ensures in
+    record {
+      faults = λ s. name_begins σ c.args.place old c.take.new.self name c.requires.starts c.text-name.ensures took.takes (c.begins_atom.ensures old.joints) took.joints took.keeps s
+          ∙ left.faults (m.name_tail name place ∷ s)
+          ∙ compares_behind σ c.arguments.new.self c.complain.new.self name place (sym c.if-sees_comparison.ensures) c.complain.ensures (c.compares.ensures c.arguments.new.self.joints) s
+          ∙ ap (λ p. fault_of σ c.complain.new.self (m.comparison p ∷ s))
+          (sym (same_place old c.complain.new.self c.args.place
+          (ap (λ scope. scope.bound) said.keeps.scope ∙ ap (λ scope. scope.bound) left.read.scope ∙ ap (λ scope. scope.bound) took.keeps.scope)))
+          ∙ c.in_ok-comparer.ensures.faults s;
+      read = compared_read
+          (headed_read k.Name (named name) σ c.requires.starts took.takes (ap (λ f. word k.Name f) (sym c.text-name.ensures)) took.keeps
+          (made_headed (named name) left.read (ap (λ f. rust.App f c.in_ok-arguments.arguments) c.symbol_of.ensures)))
+          (comparison_behind said.text said.keeps said.bytes said.on c.in_ok-comparer.ensures.read) c.compared.ensures;
+    }
 
-pub returns-else-sees_comparison-clause-reads : goal.returns-else-sees_comparison-clause-reads
-returns-else-sees_comparison-clause-reads c =
-    let read = c.in_ok-name.ensures in
-    let told = c.complain-else-sees_comparison.ensures in
-    reads_call c.args.signature.now (texts_of c.args.place.bound.now) c.args.self.now c.atom_head.new.self c.arguments.new.self c.complain-else-sees_comparison.new.self
-    (text_ahead c.args.self.now.bytes (left_of c.args.self.now)) c.place_in-number.result c.in_ok-arguments.arguments (formula.Call c.place_in-number.result c.in_ok-arguments.arguments)
-    (words k.Name c.requires.starts read.takes) read.keeps.names read.keeps.loose c.in_ok-arguments.ensures.reads
-    (ap words_left told) (ap (λ i. i.names) told) (ap (λ i. i.loose) told)
-    (call_form c.place_in-number.result c.in_ok-arguments.arguments)
-    (c.place_in-number.ensures ∙ ap (place_in c.args.signature.now) read.name)
+pub returns-else-sees_comparison : goal.returns-else-sees_comparison
+returns-else-sees_comparison c =
+    let old = c.args.self.now in
+    let σ = c.args.signature.now in
+    let name = c.text-name.result.now in
+    let took = c.in_ok-take.ensures in
+    let left = c.in_ok-arguments.ensures in
+    let place = place_of old c.args.place in
+    let said = complains c.arguments.new.self c.complain-else-sees_comparison.new.self c.stands_alone.result c.complain-else-sees_comparison.ensures in
+    record {
+      faults = λ s. name_begins σ c.args.place old c.take.new.self name c.requires.starts c.text-name.ensures took.takes (c.begins_atom.ensures old.joints) took.joints took.keeps s
+          ∙ left.faults (m.name_tail name place ∷ s)
+          ∙ skipped_in σ c.arguments.new.self c.complain-else-sees_comparison.new.self (m.name_tail name place) (m.stands_alone name) refl
+          (tail_blocked c.arguments.new.self name place (sym c.if-sees_comparison.ensures)) refl c.complain-else-sees_comparison.ensures (c.stands_alone.ensures c.arguments.new.self.joints) s;
+      read = call_read name (words_taken k.Name c.requires.starts took.takes ∙ ap (λ f. word k.Name f ∷ words_left c.take.new.self) (sym c.text-name.ensures)) took.keeps took.takes.bytes (omega (arith, took.takes.on)) left.read said
+          (call_form c.place_in.result c.in_ok-arguments.arguments ∙ ap (λ n. form.call n (list_of c.in_ok-arguments.arguments)) c.place_in.ensures);
+    }

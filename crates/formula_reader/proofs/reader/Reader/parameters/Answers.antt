@@ -1,53 +1,94 @@
-use Rattle.std.proofs.Common.{◌∙◌, [], ◌∷◌, arith, ap, refl, sym, subst}
+use Rattle.std.proofs.Common.{◌∷◌, ◌++◌, [], refl, sym, ap, ◌∙◌, arith}
 use Rattle.formula_ast.specs.declared.token.TokenKind.TheVariants as k
-use Rattle.formula_grammar.specs.Grammar as g
 use Rattle.formula_grammar.specs.Machine as m
-use Rattle.formula_reader.specs.Input.{texts_of}
-use Rattle.formula_reader.specs.Faults.{fault_of}
-use Rattle.formula_reader.specs.Reads.{Reads, ReadsParameter}
-use Rattle.formula_reader.proofs.Steps.{marks, took_plain, refuses_as, room_kept}
-use Rattle.formula_reader.proofs.FormulaSteps.{fails_to}
-use Rattle.formula_reader.proofs.StatementSteps.{closing_next}
-use Rattle.formula_reader.proofs.StatementReading.{first_parameter, next_parameter, all_parameters}
-use Rattle.formula_reader.proofs.Rooms.{less_room}
+use Rattle.formula_grammar.specs.Written.{Text}
+use Rattle.formula_reader.specs.Input.{Scope}
+use Rattle.formula_reader.specs.Faults.{fault_of, RefusesAt}
+use Rattle.formula_reader.proofs.Steps.{took_plain, stopped_plain, failed_with, answers_as, refuses_before}
+use Rattle.formula_reader.proofs.Rooms.{less, kept}
+use Rattle.formula_reader.proofs.StatementReading.{parameters_begin, parameters_more, parameters_past, header_past, definition_is, no_parameters_read, parameters_read}
 use Rattle.formula_reader.proofs.reader.Reader.parameters.Goals as goal
 
-pub returns-then-not-sees-clause-reads : goal.returns-then-not-sees-clause-reads
-returns-then-not-sees-clause-reads c =
-    subst (λ l. Reads (g.parameters (texts_of l)) c.args.self.now c.args.self.now) (sym c.new-parameters.ensures.items) (λ s d. g.no_parameters d)
+pub returns-then-not-sees : goal.returns-then-not-sees
+returns-then-not-sees c = λ σ.
+    answers_as _ _ _ _ c.expect.result (λ u define. no_parameters_read c.requires (sym c.if-not-sees.ensures) define)
+    (λ e refuses p s. refuses_before e (header_past σ c.args.self.now p (sym c.if-not-sees.ensures) s) (refuses (m.defined p [] ++ s))) (c.expect.ensures σ)
+
+pub returns-in_err-take : goal.returns-in_err-take
+returns-in_err-take c = λ σ.
+    let old = c.args.self.now in
+    failed_with _ (λ e. (p : Text) → RefusesAt (m.header p) σ old e) _ _ c.from_residual.ensures.1
+    (λ p. stopped_plain k.LeftParen old (sym c.if-not-sees.ensures) σ _ c.in_err-take.ensures.stops (m.header p) (m.parameter p [] ∷ []) refl)
+
+pub parameter-requires : goal.parameter-requires
+parameter-requires c =
+    let none = c.in_ok-take.ensures.keeps.scope ∙ c.requires in ap (λ (scope : Scope). scope.names) none ∙ sym (ap (λ (scope : Scope). scope.bound) none)
+
+pub returns-in_err-parameter : goal.returns-in_err-parameter
+returns-in_err-parameter c = λ σ.
+    let old = c.args.self.now in
+    let took = c.in_ok-take.ensures in
+    let none = ap (λ (scope : Scope). scope.bound) (took.keeps.scope ∙ c.requires) in
+    failed_with _ (λ e. (p : Text) → RefusesAt (m.header p) σ old e) _ _ c.from_residual-in_err-parameter.ensures.1
+    (λ p s. refuses_before _
+    (took_plain k.LeftParen (sym c.if-not-sees.ensures) took.takes σ (m.header p) (m.parameter p [] ∷ []) refl took.joints s
+    ∙ ap (λ xs. fault_of σ c.take.new.self (m.parameter p xs ∷ s)) (sym none))
+    (c.in_err-parameter.ensures σ p s))
 
 pub more-init : goal.more-init
 more-init c = record {
-  read = first_parameter (marks k.LeftParen (sym c.if-not-sees.ensures) c.in_ok-take.ensures.takes) (c.in_ok-take.ensures.keeps.names ∙ c.requires) c.in_ok-take.ensures.keeps.loose
-      (subst (λ l. ReadsParameter c.take.new.self c.parameter.new.self (texts_of l) (texts_of c.parameter.new.parameters.items)) c.new-parameters.ensures.items c.in_ok-parameter.ensures.reads);
-  faults = λ p s. took_plain k.LeftParen (sym c.if-not-sees.ensures) c.in_ok-take.ensures.takes c.args.signature.now (m.header p ∷ s) (m.parameter p [] ∷ s) refl refl
-      ∙ ap (λ l. fault_of c.args.signature.now c.take.new.self (m.parameter p (texts_of l) ∷ s)) (sym c.new-parameters.ensures.items) ∙ c.in_ok-parameter.ensures.faults p s;
-  bytes = c.in_ok-parameter.ensures.bytes ∙ c.in_ok-take.ensures.takes.bytes;
-  on = omega (arith, c.in_ok-take.ensures.on, c.in_ok-parameter.ensures.on);
+  reads = λ σ. parameters_begin c.requires (sym c.if-not-sees.ensures) c.in_ok-take.ensures.takes c.in_ok-take.ensures.joints c.in_ok-take.ensures.keeps (c.in_ok-parameter.ensures σ);
 }
+
+pub returns-in_err-take-2 : goal.returns-in_err-take-2
+returns-in_err-take-2 c = λ σ.
+    let r = c.more.invariant.reads σ in
+    failed_with _ (λ e. (p : Text) → RefusesAt (m.header p) σ c.args.self.now e) _ _ c.from_residual-in_err-take-2.ensures.1
+    (λ p s. refuses_before _ (r.faults p s)
+    (stopped_plain k.Comma c.more.self (sym c.more-test.ensures) σ _ c.in_err-take-2.ensures.stops (m.more_parameters p (r.first ∷ r.more)) (m.parameter p (r.first ∷ r.more) ∷ []) refl s))
+
+pub parameter-requires-in-more : goal.parameter-requires-in-more
+parameter-requires-in-more c =
+    let all = c.in_ok-take-2.ensures.keeps.scope ∙ (c.more.invariant.reads []).scope in ap (λ (scope : Scope). scope.names) all ∙ sym (ap (λ (scope : Scope). scope.bound) all)
+
+pub returns-in_err-parameter-2 : goal.returns-in_err-parameter-2
+returns-in_err-parameter-2 c = λ σ.
+    let r = c.more.invariant.reads σ in
+    let took = c.in_ok-take-2.ensures in
+    let all = ap (λ (scope : Scope). scope.bound) (took.keeps.scope ∙ r.scope) in
+    failed_with _ (λ e. (p : Text) → RefusesAt (m.header p) σ c.args.self.now e) _ _ c.from_residual-in_err-parameter-2.ensures.1
+    (λ p s. refuses_before _
+    (r.faults p s
+    ∙ took_plain k.Comma (sym c.more-test.ensures) took.takes σ (m.more_parameters p (r.first ∷ r.more)) (m.parameter p (r.first ∷ r.more) ∷ []) refl took.joints s
+    ∙ ap (λ xs. fault_of σ c.take-in-more.new.self (m.parameter p xs ∷ s)) (sym all))
+    (c.in_err-parameter-2.ensures σ p s))
 
 pub more-smaller : goal.more-smaller
 more-smaller c =
-    let less = less_room k.Comma c.more.self c.more.self c.take-in-more.new.self refl (omega arith) (sym c.more-test.ensures) c.in_ok-take-2.ensures.takes.bytes c.in_ok-take-2.ensures.on in
-    let rest = room_kept c.take-in-more.new.self c.parameter-in-more.new.self c.in_ok-parameter-2.ensures.bytes (omega (arith, c.in_ok-parameter-2.ensures.on)) in
-    omega arith
+    let further = less c.in_ok-take-2.ensures.takes in
+    let read = c.in_ok-parameter-2.ensures [] in
+    let behind = kept c.take-in-more.new.self c.parameter-in-more.new.self read.bytes (omega (arith, read.on)) in
+    omega (arith, further, behind)
 
 pub more-preserved : goal.more-preserved
 more-preserved c = record {
-  read = next_parameter c.more.invariant.read (marks k.Comma (sym c.more-test.ensures) c.in_ok-take-2.ensures.takes) c.in_ok-take-2.ensures.keeps.names
-      c.in_ok-take-2.ensures.keeps.loose c.in_ok-parameter-2.ensures.reads;
-  faults = λ p s. c.more.invariant.faults p s
-      ∙ took_plain k.Comma (sym c.more-test.ensures) c.in_ok-take-2.ensures.takes c.args.signature.now (m.more_parameters p (texts_of c.more.parameters.items) ∷ s)
-      (m.parameter p (texts_of c.more.parameters.items) ∷ s) refl refl ∙ c.in_ok-parameter-2.ensures.faults p s;
-  bytes = c.in_ok-parameter-2.ensures.bytes ∙ c.in_ok-take-2.ensures.takes.bytes ∙ c.more.invariant.bytes;
-  on = omega (arith, c.more.invariant.on, c.in_ok-take-2.ensures.on, c.in_ok-parameter-2.ensures.on);
+  reads = λ σ. parameters_more (c.more.invariant.reads σ) (sym c.more-test.ensures) c.in_ok-take-2.ensures.takes c.in_ok-take-2.ensures.joints c.in_ok-take-2.ensures.keeps
+      (c.in_ok-parameter-2.ensures σ);
 }
 
-pub returns-in_err-expect-clause-faults : goal.returns-in_err-expect-clause-faults
-returns-in_err-expect-clause-faults c = λ p s.
-    fails_to _ _ _ _ _ c.from_residual-in_err-expect.ensures.1
-    (c.more.invariant.faults p s ∙ closing_next c.args.signature.now c.more.self s p (texts_of c.more.parameters.items) c.more-test.ensures)
-    (refuses_as _ _ _ (c.in_err-expect.ensures.faults c.args.signature.now (m.defined p (texts_of c.more.parameters.items) ∷ s)))
+pub returns-in_err-expect : goal.returns-in_err-expect
+returns-in_err-expect c = λ σ.
+    let r = c.more.invariant.reads σ in
+    failed_with _ (λ e. (p : Text) → RefusesAt (m.header p) σ c.args.self.now e) _ _ c.from_residual-in_err-expect.ensures.1
+    (λ p s. refuses_before _ (r.faults p s ∙ parameters_past σ c.more.self p (r.first ∷ r.more) (sym c.more-test.ensures) s)
+    (c.in_err-expect.ensures σ (m.definition p (r.first ∷ r.more) ∷ s)))
 
-pub returns-clause-reads : goal.returns-clause-reads
-returns-clause-reads c = all_parameters c.expect.new.self c.more.invariant.read c.in_ok-expect.ensures.reads
+pub returns : goal.returns
+returns c = λ σ.
+    let r = c.more.invariant.reads σ in
+    let xs = r.first ∷ r.more in
+    let close = c.in_ok-expect.ensures σ in
+    answers_as _ _ _ _ c.expect-3.result (λ u define. parameters_read r (sym c.more-test.ensures) close define)
+    (λ e refuses p s. refuses_before e
+    (r.faults p s ∙ parameters_past σ c.more.self p xs (sym c.more-test.ensures) s ∙ close.faults (m.definition p xs ∷ s) ∙ definition_is σ c.expect-2.new.self p xs s)
+    (refuses (m.defined p xs ++ s))) (c.expect-3.ensures σ)

@@ -1,85 +1,125 @@
-use Rattle.std.proofs.Common.{◌≡◌, arith, None, ◌∙◌, [], ◌∷◌, ◌++◌, length, ap, refl, sym, subst}
-use Rattle.std.proofs.lemmas.List.{length-map}
-use Rattle.tree_model.specs.declared.kind.Kind.TheVariants as kind
+use Rattle.std.proofs.Common.{◌≡◌, ◌∷◌, ◌++◌, [], true, None, nat_le, length, refl, sym, ap, subst, ◌∙◌, arith}
 use Rattle.formula_ast.specs.declared.token.TokenKind.TheVariants as k
-use Rattle.formula_grammar.specs.Grammar as g
 use Rattle.formula_grammar.specs.Machine as m
-use Rattle.formula_grammar.specs.Checks.{check, sooner, entry_of}
-use Rattle.formula_reader.specs.Input.{Input, left_of, words_left, text_ahead, texts_of, environment}
+use Rattle.tree_model.specs.declared.kind.Kind.TheVariants as kind
+use Rattle.formula_grammar.specs.declared.fault.FaultKind.TheVariants.{Twice, Limit}
+use Rattle.formula_grammar.specs.Grammar.{files}
+use Rattle.formula_grammar.specs.Checks.{check, count_of, is_long, sooner, entry_of}
+use Rattle.formula_reader.specs.Input.{Input, Scope, words_left, text_ahead, environment}
 use Rattle.formula_reader.specs.Faults.{fault_of}
-use Rattle.formula_reader.proofs.Steps.{marks, words, took, stopped, refused_here, not_starting, refuses_as}
-use Rattle.formula_reader.proofs.FormulaSteps.{fails, refused_as, took_with}
-use Rattle.formula_reader.proofs.FormulaReading.{ReadsFormula}
-use Rattle.formula_reader.proofs.StatementSteps.{took_declaring, define_next}
+use Rattle.formula_reader.proofs.Steps.{took_in, stopped_in, refused_here, refused_as, blocked, refusal}
+use Rattle.formula_reader.proofs.Declaring.{nothing_first, not_declared}
 use Rattle.formula_reader.proofs.StatementReading.{predicate_read}
 use Rattle.formula_reader.proofs.reader.Reader.predicate.Goals as goal
 
-pub returns-in_err-expect-clause-faults : goal.returns-in_err-expect-clause-faults
-returns-in_err-expect-clause-faults c = λ s.
-    fails _ _ _ _ _ c.from_residual-in_err-expect.ensures.1
-    (took_with k.Pred c.args.self.now c.begin.new.self c.requires c.in_ok-begin.ensures.takes 0 c.in_ok-begin.ensures.joints c.args.file.now.signature (m.file ∷ s) (m.predicate_name ∷ m.file ∷ s) m.begins refl c.in_ok-begin.ensures.takes.right refl
-    ∙ took k.Name (sym c.if-not-sees.ensures) c.in_ok-take.ensures.takes c.args.file.now.signature (m.predicate_name ∷ m.file ∷ s) (m.header (text_ahead c.begin.new.self.bytes (left_of c.begin.new.self)) ∷ m.file ∷ s) (m.declares_predicate (text_ahead c.begin.new.self.bytes (left_of c.begin.new.self)) ∷ []) refl
-    (subst (λ w. sooner c.begin.new.self.pending w ≡ None)
-    (c.check_declares_predicate-wrong.ensures ∙ ap (λ f. check (environment c.args.file.now.signature c.begin.new.self) (m.declares_predicate f)) c.text-name.ensures) c.in_ok-take.ensures.takes.right) refl
-    ∙ c.in_ok-parameters.ensures.faults (text_ahead c.begin.new.self.bytes (left_of c.begin.new.self)) (m.file ∷ s) ∙ define_next c.args.file.now.signature c.parameters.new.self (m.file ∷ s) (text_ahead c.begin.new.self.bytes (left_of c.begin.new.self)) (texts_of c.in_ok-parameters.parameters.items))
-    (refuses_as _ _ _ (c.in_err-expect.ensures.faults c.args.file.now.signature (m.formula (m.closed_place (texts_of c.in_ok-parameters.parameters.items)) ∷ m.predicate_end (text_ahead c.begin.new.self.bytes (left_of c.begin.new.self)) (length (texts_of c.in_ok-parameters.parameters.items)) ∷ m.file ∷ s)))
+pub returns-then-not-sees : goal.returns-then-not-sees
+returns-then-not-sees c = λ s.
+    let σ = c.args.file.now.signature in
+    let begin = c.in_ok-begin.ensures in
+    let begun = c.begin.new.self in
+    refused_as _ _ c.fault.ensures
+    (took_in k.Pred c.requires begin.takes σ σ (m.statements files) m.begins (m.predicate_name ∷ m.statements files ∷ []) refl refl (ap (environment σ) (sym begin.joints)) s
+    ∙ refused_here σ begun m.predicate_name refl (blocked k.Name begun m.predicate_name (sym c.if-not-sees.ensures) (λ t no. rw no refl)) (m.statements files ∷ s))
 
-pub returns-in_err-body-clause-faults : goal.returns-in_err-body-clause-faults
-returns-in_err-body-clause-faults c = λ s.
-    fails _ _ _ _ _ c.from_residual-in_err-body.ensures.1
-    (took_with k.Pred c.args.self.now c.begin.new.self c.requires c.in_ok-begin.ensures.takes 0 c.in_ok-begin.ensures.joints c.args.file.now.signature (m.file ∷ s) (m.predicate_name ∷ m.file ∷ s) m.begins refl c.in_ok-begin.ensures.takes.right refl
-    ∙ took k.Name (sym c.if-not-sees.ensures) c.in_ok-take.ensures.takes c.args.file.now.signature (m.predicate_name ∷ m.file ∷ s) (m.header (text_ahead c.begin.new.self.bytes (left_of c.begin.new.self)) ∷ m.file ∷ s) (m.declares_predicate (text_ahead c.begin.new.self.bytes (left_of c.begin.new.self)) ∷ []) refl
-    (subst (λ w. sooner c.begin.new.self.pending w ≡ None)
-    (c.check_declares_predicate-wrong.ensures ∙ ap (λ f. check (environment c.args.file.now.signature c.begin.new.self) (m.declares_predicate f)) c.text-name.ensures) c.in_ok-take.ensures.takes.right) refl
-    ∙ c.in_ok-parameters.ensures.faults (text_ahead c.begin.new.self.bytes (left_of c.begin.new.self)) (m.file ∷ s) ∙ define_next c.args.file.now.signature c.parameters.new.self (m.file ∷ s) (text_ahead c.begin.new.self.bytes (left_of c.begin.new.self)) (texts_of c.in_ok-parameters.parameters.items) ∙ c.in_ok-expect.ensures.faults c.args.file.now.signature (m.formula (m.closed_place (texts_of c.in_ok-parameters.parameters.items)) ∷ m.predicate_end (text_ahead c.begin.new.self.bytes (left_of c.begin.new.self)) (length (texts_of c.in_ok-parameters.parameters.items)) ∷ m.file ∷ s)
-    ∙ ap (λ l. fault_of c.args.file.now.signature c.expect.new.self (m.formula (m.closed_place (texts_of l)) ∷ m.predicate_end (text_ahead c.begin.new.self.bytes (left_of c.begin.new.self)) (length (texts_of c.in_ok-parameters.parameters.items)) ∷ m.file ∷ s)) (sym c.deref.ensures.value))
-    (refuses_as _ _ _ (c.in_err-body.ensures.faults (m.predicate_end (text_ahead c.begin.new.self.bytes (left_of c.begin.new.self)) (length (texts_of c.in_ok-parameters.parameters.items)) ∷ m.file ∷ s)))
+pub returns-in_err-take : goal.returns-in_err-take
+returns-in_err-take c =
+    let σ = c.args.file.now.signature in
+    let begin = c.in_ok-begin.ensures in
+    let begun = c.begin.new.self in
+    let name = text_ahead begun in
+    refusal _ _ σ c.args.self.now _ _ _ c.from_residual-in_err-take.ensures.1
+    (λ s. took_in k.Pred c.requires begin.takes σ σ (m.statements files) m.begins (m.predicate_name ∷ m.statements files ∷ []) refl refl (ap (environment σ) (sym begin.joints)) s)
+    (λ s. stopped_in k.Name begun (sym c.if-not-sees.ensures) σ _ c.in_err-take.ensures.stops m.predicate_name (m.declares_predicate name) (m.header name ∷ []) refl
+    (c.declares_predicate-wrong.ensures begun.joints ∙ ap (λ f. check (environment σ begun.joints) (m.declares_predicate f)) c.text-name.ensures) (m.statements files ∷ s))
 
-pub returns-then-not-sees-2-clause-faults : goal.returns-then-not-sees-2-clause-faults
-returns-then-not-sees-2-clause-faults c = λ s.
-    refused_as (Unit {0}) _ _ _ _ c.fault-then-not-sees-2.ensures
-    (took_with k.Pred c.args.self.now c.begin.new.self c.requires c.in_ok-begin.ensures.takes 0 c.in_ok-begin.ensures.joints c.args.file.now.signature (m.file ∷ s) (m.predicate_name ∷ m.file ∷ s) m.begins refl c.in_ok-begin.ensures.takes.right refl
-    ∙ took k.Name (sym c.if-not-sees.ensures) c.in_ok-take.ensures.takes c.args.file.now.signature (m.predicate_name ∷ m.file ∷ s) (m.header (text_ahead c.begin.new.self.bytes (left_of c.begin.new.self)) ∷ m.file ∷ s) (m.declares_predicate (text_ahead c.begin.new.self.bytes (left_of c.begin.new.self)) ∷ []) refl
-    (subst (λ w. sooner c.begin.new.self.pending w ≡ None)
-    (c.check_declares_predicate-wrong.ensures ∙ ap (λ f. check (environment c.args.file.now.signature c.begin.new.self) (m.declares_predicate f)) c.text-name.ensures) c.in_ok-take.ensures.takes.right) refl
-    ∙ c.in_ok-parameters.ensures.faults (text_ahead c.begin.new.self.bytes (left_of c.begin.new.self)) (m.file ∷ s) ∙ define_next c.args.file.now.signature c.parameters.new.self (m.file ∷ s) (text_ahead c.begin.new.self.bytes (left_of c.begin.new.self)) (texts_of c.in_ok-parameters.parameters.items) ∙ c.in_ok-expect.ensures.faults c.args.file.now.signature (m.formula (m.closed_place (texts_of c.in_ok-parameters.parameters.items)) ∷ m.predicate_end (text_ahead c.begin.new.self.bytes (left_of c.begin.new.self)) (length (texts_of c.in_ok-parameters.parameters.items)) ∷ m.file ∷ s)
-    ∙ ap (λ l. fault_of c.args.file.now.signature c.expect.new.self (m.formula (m.closed_place (texts_of l)) ∷ m.predicate_end (text_ahead c.begin.new.self.bytes (left_of c.begin.new.self)) (length (texts_of c.in_ok-parameters.parameters.items)) ∷ m.file ∷ s)) (sym c.deref.ensures.value) ∙ c.in_ok-body.ensures.faults (m.predicate_end (text_ahead c.begin.new.self.bytes (left_of c.begin.new.self)) (length (texts_of c.in_ok-parameters.parameters.items)) ∷ m.file ∷ s)
-    ∙ refused_here c.args.file.now.signature c.formula.new.self (m.predicate_end (text_ahead c.begin.new.self.bytes (left_of c.begin.new.self)) (length (texts_of c.in_ok-parameters.parameters.items)) ∷ m.file ∷ s) refl (λ t more is. rw (not_starting k.Stop (left_of c.formula.new.self) t more (sym c.if-not-sees-2.ensures) is) refl))
+pub returns-in_err-parameters : goal.returns-in_err-parameters
+returns-in_err-parameters c =
+    let σ = c.args.file.now.signature in
+    let begin = c.in_ok-begin.ensures in
+    let begun = c.begin.new.self in
+    let name = text_ahead begun in
+    refusal _ _ σ c.args.self.now _ _ _ c.from_residual-in_err-parameters.ensures.1
+    (λ s. took_in k.Pred c.requires begin.takes σ σ (m.statements files) m.begins (m.predicate_name ∷ m.statements files ∷ []) refl refl (ap (environment σ) (sym begin.joints)) s
+    ∙ took_in k.Name (sym c.if-not-sees.ensures) c.in_ok-take.ensures.takes σ σ m.predicate_name (m.declares_predicate name) (m.header name ∷ []) refl (c.declares_predicate-wrong.ensures begun.joints ∙ ap (λ f. check (environment σ begun.joints) (m.declares_predicate f)) c.text-name.ensures)
+    (ap (environment σ) (sym c.in_ok-take.ensures.joints)) (m.statements files ∷ s))
+    (λ s. c.in_err-parameters.ensures σ name (m.statements files ∷ s))
 
-pub returns-in_err-take-2-clause-faults : goal.returns-in_err-take-2-clause-faults
-returns-in_err-take-2-clause-faults c = λ s.
-    fails _ _ _ _ _ c.from_residual-in_err-take-2.ensures.1
-    (took_with k.Pred c.args.self.now c.begin.new.self c.requires c.in_ok-begin.ensures.takes 0 c.in_ok-begin.ensures.joints c.args.file.now.signature (m.file ∷ s) (m.predicate_name ∷ m.file ∷ s) m.begins refl c.in_ok-begin.ensures.takes.right refl
-    ∙ took k.Name (sym c.if-not-sees.ensures) c.in_ok-take.ensures.takes c.args.file.now.signature (m.predicate_name ∷ m.file ∷ s) (m.header (text_ahead c.begin.new.self.bytes (left_of c.begin.new.self)) ∷ m.file ∷ s) (m.declares_predicate (text_ahead c.begin.new.self.bytes (left_of c.begin.new.self)) ∷ []) refl
-    (subst (λ w. sooner c.begin.new.self.pending w ≡ None)
-    (c.check_declares_predicate-wrong.ensures ∙ ap (λ f. check (environment c.args.file.now.signature c.begin.new.self) (m.declares_predicate f)) c.text-name.ensures) c.in_ok-take.ensures.takes.right) refl
-    ∙ c.in_ok-parameters.ensures.faults (text_ahead c.begin.new.self.bytes (left_of c.begin.new.self)) (m.file ∷ s) ∙ define_next c.args.file.now.signature c.parameters.new.self (m.file ∷ s) (text_ahead c.begin.new.self.bytes (left_of c.begin.new.self)) (texts_of c.in_ok-parameters.parameters.items) ∙ c.in_ok-expect.ensures.faults c.args.file.now.signature (m.formula (m.closed_place (texts_of c.in_ok-parameters.parameters.items)) ∷ m.predicate_end (text_ahead c.begin.new.self.bytes (left_of c.begin.new.self)) (length (texts_of c.in_ok-parameters.parameters.items)) ∷ m.file ∷ s)
-    ∙ ap (λ l. fault_of c.args.file.now.signature c.expect.new.self (m.formula (m.closed_place (texts_of l)) ∷ m.predicate_end (text_ahead c.begin.new.self.bytes (left_of c.begin.new.self)) (length (texts_of c.in_ok-parameters.parameters.items)) ∷ m.file ∷ s)) (sym c.deref.ensures.value) ∙ c.in_ok-body.ensures.faults (m.predicate_end (text_ahead c.begin.new.self.bytes (left_of c.begin.new.self)) (length (texts_of c.in_ok-parameters.parameters.items)) ∷ m.file ∷ s))
-    (stopped k.Stop c.formula.new.self (sym c.if-not-sees-2.ensures) c.args.file.now.signature _ _ c.in_err-take-2.ensures.stops (m.predicate_end (text_ahead c.begin.new.self.bytes (left_of c.begin.new.self)) (length (texts_of c.in_ok-parameters.parameters.items)) ∷ m.file ∷ s) _ (m.ends_predicate (text_ahead c.begin.new.self.bytes (left_of c.begin.new.self)) (length (texts_of c.in_ok-parameters.parameters.items)) ∷ []) refl refl)
+pub parameters-requires : goal.parameters-requires
+parameters-requires c = c.in_ok-take.ensures.keeps.scope ∙ c.in_ok-begin.ensures.scope
 
-pub returns-clause-faults : goal.returns-clause-faults
-returns-clause-faults c = λ s.
-    let params : c.len-params.result ≡ length (texts_of c.in_ok-parameters.parameters.items) = rw length-map (omega (arith, c.len-params.ensures)) in
-    let declared = c.in_ok-place.ensures.declared ∙ ap (λ f. c.args.file.now.signature ++ entry_of f kind.Pred c.len-params.result ∷ []) c.text-name.ensures
-    ∙ ap (λ n. c.args.file.now.signature ++ entry_of (text_ahead c.begin.new.self.bytes (left_of c.begin.new.self)) kind.Pred n ∷ []) params in
-    took_with k.Pred c.args.self.now c.begin.new.self c.requires c.in_ok-begin.ensures.takes 0 c.in_ok-begin.ensures.joints c.args.file.now.signature (m.file ∷ s) (m.predicate_name ∷ m.file ∷ s) m.begins refl c.in_ok-begin.ensures.takes.right refl
-    ∙ took k.Name (sym c.if-not-sees.ensures) c.in_ok-take.ensures.takes c.args.file.now.signature (m.predicate_name ∷ m.file ∷ s) (m.header (text_ahead c.begin.new.self.bytes (left_of c.begin.new.self)) ∷ m.file ∷ s) (m.declares_predicate (text_ahead c.begin.new.self.bytes (left_of c.begin.new.self)) ∷ []) refl
-    (subst (λ w. sooner c.begin.new.self.pending w ≡ None)
-    (c.check_declares_predicate-wrong.ensures ∙ ap (λ f. check (environment c.args.file.now.signature c.begin.new.self) (m.declares_predicate f)) c.text-name.ensures) c.in_ok-take.ensures.takes.right) refl
-    ∙ c.in_ok-parameters.ensures.faults (text_ahead c.begin.new.self.bytes (left_of c.begin.new.self)) (m.file ∷ s) ∙ define_next c.args.file.now.signature c.parameters.new.self (m.file ∷ s) (text_ahead c.begin.new.self.bytes (left_of c.begin.new.self)) (texts_of c.in_ok-parameters.parameters.items) ∙ c.in_ok-expect.ensures.faults c.args.file.now.signature (m.formula (m.closed_place (texts_of c.in_ok-parameters.parameters.items)) ∷ m.predicate_end (text_ahead c.begin.new.self.bytes (left_of c.begin.new.self)) (length (texts_of c.in_ok-parameters.parameters.items)) ∷ m.file ∷ s)
-    ∙ ap (λ l. fault_of c.args.file.now.signature c.expect.new.self (m.formula (m.closed_place (texts_of l)) ∷ m.predicate_end (text_ahead c.begin.new.self.bytes (left_of c.begin.new.self)) (length (texts_of c.in_ok-parameters.parameters.items)) ∷ m.file ∷ s)) (sym c.deref.ensures.value) ∙ c.in_ok-body.ensures.faults (m.predicate_end (text_ahead c.begin.new.self.bytes (left_of c.begin.new.self)) (length (texts_of c.in_ok-parameters.parameters.items)) ∷ m.file ∷ s)
-    ∙ took_declaring k.Stop c.formula.new.self c.take-2.new.self (sym c.if-not-sees-2.ensures) c.in_ok-take-2.ensures.takes c.args.file.now.signature (c.args.file.now.signature ++ entry_of (text_ahead c.begin.new.self.bytes (left_of c.begin.new.self)) kind.Pred (length (texts_of c.in_ok-parameters.parameters.items)) ∷ []) (m.predicate_end (text_ahead c.begin.new.self.bytes (left_of c.begin.new.self)) (length (texts_of c.in_ok-parameters.parameters.items)) ∷ m.file ∷ s) (m.file ∷ s)
-    (m.ends_predicate (text_ahead c.begin.new.self.bytes (left_of c.begin.new.self)) (length (texts_of c.in_ok-parameters.parameters.items))) refl c.in_ok-take-2.ensures.takes.right refl
-    ∙ ap (λ σ. fault_of σ c.take-2.new.self (m.file ∷ s)) (sym declared) ∙ ap (λ i. fault_of c.declare.new.signature i (m.file ∷ s)) (sym c.self.view_is)
+pub returns-in_err-body : goal.returns-in_err-body
+returns-in_err-body c =
+    let σ = c.args.file.now.signature in
+    let begin = c.in_ok-begin.ensures in
+    let begun = c.begin.new.self in
+    let name = text_ahead begun in
+    let listed = c.in_ok-parameters.ensures σ in
+    let stop = m.one k.Stop (λ text. m.ends_predicate name (length listed.parameters) ∷ []) in
+    refusal _ _ σ c.args.self.now _ _ _ c.from_residual-in_err-body.ensures.1
+    (λ s. took_in k.Pred c.requires begin.takes σ σ (m.statements files) m.begins (m.predicate_name ∷ m.statements files ∷ []) refl refl (ap (environment σ) (sym begin.joints)) s
+    ∙ took_in k.Name (sym c.if-not-sees.ensures) c.in_ok-take.ensures.takes σ σ m.predicate_name (m.declares_predicate name) (m.header name ∷ []) refl (c.declares_predicate-wrong.ensures begun.joints ∙ ap (λ f. check (environment σ begun.joints) (m.declares_predicate f)) c.text-name.ensures)
+    (ap (environment σ) (sym c.in_ok-take.ensures.joints)) (m.statements files ∷ s)
+    ∙ listed.faults name (m.statements files ∷ s)
+    ∙ ap (λ (scope : Scope). fault_of σ c.parameters.new.self (m.operand 1 (record { depth = 0; bound = scope.bound; closed = true }) ∷ stop ∷ m.statements files ∷ s)) (sym listed.scope))
+    (λ s. c.in_err-body.ensures (stop ∷ m.statements files ∷ s))
 
-pub returns-clause-reads : goal.returns-clause-reads
-returns-clause-reads c =
-    let params : c.len-params.result ≡ length (texts_of c.in_ok-parameters.parameters.items) = rw length-map (omega (arith, c.len-params.ensures)) in
-    let declared = c.in_ok-place.ensures.declared ∙ ap (λ f. c.args.file.now.signature ++ entry_of f kind.Pred c.len-params.result ∷ []) c.text-name.ensures
-    ∙ ap (λ n. c.args.file.now.signature ++ entry_of (text_ahead c.begin.new.self.bytes (left_of c.begin.new.self)) kind.Pred n ∷ []) params in
-    predicate_read c.begin.new.self c.take.new.self c.parameters.new.self c.take-2.new.self _ _ _ c.in_ok-body.body (text_ahead c.begin.new.self.bytes (left_of c.begin.new.self)) (texts_of c.in_ok-parameters.parameters.items) _ (marks k.Pred c.requires c.in_ok-begin.ensures.takes)
-    (words k.Name (sym c.if-not-sees.ensures) c.in_ok-take.ensures.takes) c.in_ok-parameters.ensures.reads c.in_ok-expect.ensures.reads
-    (c.in_ok-expect.ensures.keeps.names ∙ c.in_ok-parameters.ensures.names)
-    (subst (λ l. ReadsFormula g.formula c.args.file.now.signature (texts_of l) c.expect.new.self c.formula.new.self c.in_ok-body.body) c.deref.ensures.value c.in_ok-body.ensures.reads)
-    (marks k.Stop (sym c.if-not-sees-2.ensures) c.in_ok-take-2.ensures.takes) (ap words_left c.self.view_is) c.in_ok-place.ensures.place
-    params (c.in_ok-names.ensures.names ∙ c.replace.ensures.value ∙ ap (λ (i : Input). i.names) c.self.view_is ∙ c.in_ok-take-2.ensures.keeps.names) refl declared c.in_ok-push.ensures.ok refl
+pub returns-then-not-sees-2 : goal.returns-then-not-sees-2
+returns-then-not-sees-2 c = λ s.
+    let σ = c.args.file.now.signature in
+    let begin = c.in_ok-begin.ensures in
+    let begun = c.begin.new.self in
+    let name = text_ahead begun in
+    let listed = c.in_ok-parameters.ensures σ in
+    let stop = m.one k.Stop (λ text. m.ends_predicate name (length listed.parameters) ∷ []) in
+    refused_as _ _ c.fault-then-not-sees-2.ensures
+    (took_in k.Pred c.requires begin.takes σ σ (m.statements files) m.begins (m.predicate_name ∷ m.statements files ∷ []) refl refl (ap (environment σ) (sym begin.joints)) s
+    ∙ took_in k.Name (sym c.if-not-sees.ensures) c.in_ok-take.ensures.takes σ σ m.predicate_name (m.declares_predicate name) (m.header name ∷ []) refl (c.declares_predicate-wrong.ensures begun.joints ∙ ap (λ f. check (environment σ begun.joints) (m.declares_predicate f)) c.text-name.ensures)
+    (ap (environment σ) (sym c.in_ok-take.ensures.joints)) (m.statements files ∷ s)
+    ∙ listed.faults name (m.statements files ∷ s)
+    ∙ ap (λ (scope : Scope). fault_of σ c.parameters.new.self (m.operand 1 (record { depth = 0; bound = scope.bound; closed = true }) ∷ stop ∷ m.statements files ∷ s)) (sym listed.scope)
+    ∙ c.in_ok-body.ensures.faults (stop ∷ m.statements files ∷ s)
+    ∙ refused_here σ c.operand.new.self stop refl (blocked k.Stop c.operand.new.self stop (sym c.if-not-sees-2.ensures) (λ t no. rw no refl)) (m.statements files ∷ s))
+
+pub returns-in_err-take-2 : goal.returns-in_err-take-2
+returns-in_err-take-2 c =
+    let σ = c.args.file.now.signature in
+    let begin = c.in_ok-begin.ensures in
+    let begun = c.begin.new.self in
+    let name = text_ahead begun in
+    let listed = c.in_ok-parameters.ensures σ in
+    let stop = m.one k.Stop (λ text. m.ends_predicate name (length listed.parameters) ∷ []) in
+    refusal _ _ σ c.args.self.now _ _ _ c.from_residual-in_err-take-2.ensures.1
+    (λ s. took_in k.Pred c.requires begin.takes σ σ (m.statements files) m.begins (m.predicate_name ∷ m.statements files ∷ []) refl refl (ap (environment σ) (sym begin.joints)) s
+    ∙ took_in k.Name (sym c.if-not-sees.ensures) c.in_ok-take.ensures.takes σ σ m.predicate_name (m.declares_predicate name) (m.header name ∷ []) refl (c.declares_predicate-wrong.ensures begun.joints ∙ ap (λ f. check (environment σ begun.joints) (m.declares_predicate f)) c.text-name.ensures)
+    (ap (environment σ) (sym c.in_ok-take.ensures.joints)) (m.statements files ∷ s)
+    ∙ listed.faults name (m.statements files ∷ s)
+    ∙ ap (λ (scope : Scope). fault_of σ c.parameters.new.self (m.operand 1 (record { depth = 0; bound = scope.bound; closed = true }) ∷ stop ∷ m.statements files ∷ s)) (sym listed.scope)
+    ∙ c.in_ok-body.ensures.faults (stop ∷ m.statements files ∷ s))
+    (λ s. stopped_in k.Stop c.operand.new.self (sym c.if-not-sees-2.ensures) σ _ c.in_err-take-2.ensures.stops stop (m.ends_predicate name (length listed.parameters)) [] refl refl
+    (m.statements files ∷ s))
+
+pub declare-requires : goal.declare-requires
+declare-requires c =
+    not_declared _ (nothing_first c.begin.new.self.pending _ Twice ((is_long c.text-name.result.now, Limit) ∷ (nat_le 1024 (count_of kind.Pred c.args.file.now.signature), Limit) ∷ [])
+    (subst (λ w. sooner c.begin.new.self.pending w ≡ None) (c.declares_predicate-wrong.ensures 0) c.in_ok-take.ensures.takes.right))
+
+pub returns : goal.returns
+returns c =
+    let σ = c.args.file.now.signature in
+    let begin = c.in_ok-begin.ensures in
+    let begun = c.begin.new.self in
+    let name = text_ahead begun in
+    let listed = c.in_ok-parameters.ensures σ in
+    let params : c.depth-params.result ≡ length listed.parameters =
+    c.depth-params.ensures ∙ ap (λ (i : Input). length i.scope.bound) c.self.view_is ∙ ap (λ (scope : Scope). length scope.bound) listed.scope in
+    let at = ap (λ (i : Input). i.at) c.self-2.view_is in
+    predicate_read c.args.file.now _ c.requires begin.takes begin.joints (sym c.if-not-sees.ensures) c.in_ok-take.ensures.takes (c.declares_predicate-wrong.ensures begun.joints ∙ ap (λ f. check (environment σ begun.joints) (m.declares_predicate f)) c.text-name.ensures)
+    c.in_ok-take.ensures.joints listed (listed.loose ∙ c.in_ok-take.ensures.keeps.loose ∙ begin.loose)
+    (λ s. ap (λ (scope : Scope). fault_of σ c.parameters.new.self (m.operand 1 (record { depth = 0; bound = scope.bound; closed = true }) ∷ s)) (sym listed.scope) ∙ c.in_ok-body.ensures.faults s)
+    c.in_ok-body.ensures.read (sym c.if-not-sees-2.ensures) c.in_ok-take-2.ensures.takes c.in_ok-take-2.ensures.joints
+    (λ s. ap (λ (i : Input). fault_of c.declare.new.signature i s) (sym c.self-2.view_is)) (ap (λ (i : Input). words_left i) c.self-2.view_is)
+    (ap (λ (i : Input). i.bytes) c.self-2.view_is) (omega (arith, at)) c.in_ok-place.ensures.place params
+    (c.in_ok-names.ensures.names ∙ ap (λ (scope : Scope). scope.names) c.replace.ensures.value ∙ ap (λ (i : Input). i.scope.names) c.self-2.view_is
+    ∙ ap (λ (scope : Scope). scope.names) c.in_ok-take-2.ensures.keeps.scope) refl
+    (c.in_ok-place.ensures.declared ∙ ap (λ f. σ ++ entry_of f kind.Pred c.depth-params.result ∷ []) c.text-name.ensures ∙ ap (λ n. σ ++ entry_of name kind.Pred n ∷ []) params)
+    c.in_ok-push.ensures.ok refl

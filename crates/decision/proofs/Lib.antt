@@ -1,0 +1,7 @@
+pub mod Free
+pub mod Indexes
+pub mod Listed
+pub mod Lists
+pub mod Names
+pub mod Solution
+pub mod Verdicts

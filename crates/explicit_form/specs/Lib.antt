@@ -1,0 +1,5 @@
+pub mod Explicit
+pub mod Joining
+pub mod Pieces
+pub mod Shape
+pub mod Shaped

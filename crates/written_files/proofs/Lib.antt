@@ -1,0 +1,2 @@
+pub mod OfKinds
+pub mod Statements
