@@ -1,6 +1,5 @@
 -- Two lists of reduced cubes, one for what is asked of the values of some variables and one for its denial.
-use Rattle.std.proofs.Common.{◌≡◌, ◌↔◌, ◌⊎◌, inl, inr, ℕ, ◌+◌, ◌<◌, List, [], ◌∷◌, length, slice_index, slice_get, Some, All, Contains, refl, sym, subst, arith}
-use Rattle.std.proofs.Math.Nat.{eq-or-lt_of_le}
+use Rattle.std.proofs.Common.{◌≡◌, ◌↔◌, ℕ, ◌+◌, ◌<◌, List, [], ◌∷◌, length, slice_index, slice_get, Some, All, Contains, refl, sym, subst, arith}
 use Rattle.std.proofs.lemmas.List.Elements.{All-head, All-get_or}
 use Rattle.std.proofs.lemmas.Option.{slice_get_within, get_or_from_slice_get}
 use Rattle.classical.proofs.Stable.{left, some}
@@ -18,6 +17,7 @@ use Rattle.flat_form.specs.Reduced.{IsReduced}
 use Rattle.flat_form.specs.Symbols.{CubesFit}
 use Rattle.flat_form.proofs.Symbols.{each_of}
 use Rattle.flattening.specs.Conditions.{GivesRanks}
+use Rattle.explicit_form.specs.Shape.{IsNotEmpty}
 use Rattle.cube_facts.proofs.Solution.{reduced_solution}
 use Rattle.list_facts.proofs.Plain.{closed_is_fixed}
 use Rattle.list_facts.proofs.Some.{in_some}
@@ -67,10 +67,14 @@ module _ {σ : Signature} (ranks : List ℕ) (P : Valuation σ → Type 0) where
   holds_everywhere cubes list cube has always d =
       (list.means d (by_rank ranks d) (gives_by_rank ranks d)).0 (in_some (by_rank ranks d) cubes cube has (always (by_rank ranks d)))
 
--- ---- both lists
+  -- a cube over no variable holds somewhere, and so everywhere
+  pub closed_holds : length ranks ≡ 0 → (cube : Cube) (rest : List Cube) → IsListOf ranks P (cube ∷ rest) → (d : Valuation σ) → ¬ ¬ P d
+  closed_holds closed cube rest list d fails =
+      reduced_solution σ cube (All-head IsReduced cube rest list.reduced) (All-head (CubeFits σ) cube rest list.fits)
+      (λ (e, holds). fails (holds_everywhere (cube ∷ rest) list cube (0, omega arith, refl)
+      (λ other. closed_is_fixed σ cube e other (omega (arith, closed, (All-head (λ (c : Cube). (c.free ≡ length ranks) × IsWellNumbered c) cube rest list.over).0)) holds) d))
 
-none_or_some : (n : ℕ) → (0 ≡ n) ⊎ (0 < n)
-none_or_some n = eq-or-lt_of_le (omega arith)
+-- ---- both lists
 
 -- a cube with neither atoms nor parts holds everywhere
 empty_holds : {σ : Signature} (cube : Cube) → cube.basic ≡ [] → cube.parts ≡ [] → (e : Valuation σ) → CubeHolds e cube
@@ -80,10 +84,6 @@ empty_holds cube no_atoms no_parts e =
       subst (λ (basic : List Flat). BasicHolds e basic) (sym no_atoms) tt,
       subst (λ (parts : List Part). AllFail (cube.free + cube.outer) e parts) (sym no_parts) tt,
     )
-
--- the cube says something
-abbrev pub IsNotEmpty : Cube → Type 0
-IsNotEmpty cube = ¬ ((cube.basic ≡ []) × (cube.parts ≡ []))
 
 module _ {σ : Signature} (ranks : List ℕ) (P Q : Valuation σ → Type 0) (apart : (d : Valuation σ) → P d → Q d → ⊥) where
   -- where both lists have a cube, no cube of the first holds everywhere
@@ -99,16 +99,6 @@ module _ {σ : Signature} (ranks : List ℕ) (P Q : Valuation σ → Type 0) (ap
   not_empty distinct cubes list other others denial =
       each_of IsNotEmpty cubes (λ cube has empty.
       fails_somewhere distinct cubes list other others denial cube has (empty_holds cube empty.0 empty.1))
-
-  -- and there is a free variable, since without one a cube that holds somewhere holds everywhere
-  pub some_rank : IsDistinct ranks → (cube : Cube) (rest : List Cube) → IsListOf ranks P (cube ∷ rest) → (other : Cube) (others : List Cube) → IsListOf ranks Q (other ∷ others)
-      → 0 < length ranks
-  some_rank distinct cube rest list other others denial = elim (none_or_some (length ranks)) [
-    | inr many ↦ many
-    | inl none ↦ absurd (reduced_solution σ cube (All-head IsReduced cube rest list.reduced) (All-head (CubeFits σ) cube rest list.fits)
-        (λ (d, holds). fails_somewhere distinct (cube ∷ rest) list other others denial cube (0, omega arith, refl)
-        (λ e. closed_is_fixed σ cube d e (omega (arith, none, (All-head (λ (c : Cube). (c.free ≡ length ranks) × IsWellNumbered c) cube rest list.over).0)) holds)))
-  ]
 
 -- what holds of each item holds of the one at a place
 pub at_place : {X : Type 0} (P : X → Type 0) (xs : List X) (i : ℕ) (x : X) → All P xs → slice_get xs i ≡ Some x → P x

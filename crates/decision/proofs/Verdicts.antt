@@ -21,9 +21,11 @@ use Rattle.formula_ast.proofs.Stable.{Holds_stable}
 use Rattle.flat_form.specs.declared.cube.Cube.{Cube}
 use Rattle.flat_form.specs.Normals.{Norm}
 use Rattle.flat_form.specs.Numbering.{CubesOver}
-use Rattle.flat_form.specs.Symbols.{cubes_symbols, CubesFit}
+use Rattle.flat_form.specs.Symbols.{cube_symbols, cubes_symbols, CubesFit}
 use Rattle.flat_form.proofs.Symbols.{each_of}
 use Rattle.flattening.specs.Conditions.{GivesRanks}
+use Rattle.flattening.specs.Symbols.{form_symbols}
+use Rattle.flattening.proofs.EachItem.{flat_all}
 use Rattle.game_library.specs.Solving.{StandsIn}
 use Rattle.explicit_form.specs.Shape.{IsNotEmpty}
 use Rattle.witness_trees.specs.Values.{IndexesAreUsed}
@@ -33,13 +35,28 @@ use Rattle.decision.specs.Decided.{IsSatisfied, IsSolution, IsSide, OpensRightly
 use Rattle.decision.specs.Naming.{ranks_of, names_at, free_names, used_indexes}
 use Rattle.decision.specs.Shown.{CanBeShown, ShowsCubes, ShowsBoth}
 use Rattle.decision.proofs.Free.{free_below}
-use Rattle.decision.proofs.Lists.{by_rank, gives_by_rank, IsListOf, holds_nowhere, holds_somewhere, not_empty, some_rank}
+use Rattle.decision.proofs.ShownSymbols.{explicit_symbols, fresh_declared}
+use Rattle.decision.proofs.Lists.{at_place, by_rank, gives_by_rank, IsListOf, holds_nowhere, holds_somewhere, not_empty, closed_holds}
 use Rattle.decision.proofs.Names.{first_distinct, names_are_words, names_are_distinct, length_names}
 use Rattle.decision.proofs.Solution.{solution_fits, indexes_are_used, list_of}
 
 -- there is a valuation, so a statement is not both
 pub not_both : (file : File) (s : Statement) → IsValid file s → IsUnsatisfiable file s → ⊥
 not_both file s valid none = let e : Valuation file.signature = λ v. constant file.signature 0 in none e (valid e)
+
+-- so `True` and `False` are right answers of a valid and of an unsatisfiable statement
+module _ (file : File) (s : Statement) where
+  pub true_always : IsValid file s → (◌≡◌ {A = Answer} «True» «True») ↔ IsValid file s
+  true_always valid = (λ e. valid, λ again. refl)
+
+  pub true_never : IsValid file s → (◌≡◌ {A = Answer} «True» «False») ↔ IsUnsatisfiable file s
+  true_never valid = (λ e. cc e, λ none. absurd (not_both file s valid none))
+
+  pub false_always : IsUnsatisfiable file s → (◌≡◌ {A = Answer} «False» «True») ↔ IsValid file s
+  false_always none = (λ e. cc e, λ valid. absurd (not_both file s valid none))
+
+  pub false_never : IsUnsatisfiable file s → (◌≡◌ {A = Answer} «False» «False») ↔ IsUnsatisfiable file s
+  false_never none = (λ e. none, λ again. refl)
 
 -- a list with an item begins with one
 pub begins : {X : Type 0} (xs : List X) → ¬ (length xs ≡ 0) → (x : X) × (rest : List X) × (xs ≡ x ∷ rest)
@@ -88,19 +105,11 @@ module _ (gives : ℕ → Norm → List Cube → Type 0) (file : File) (formed :
   some_other [] is some valid = some refl
   some_other (cube ∷ rest) is some valid = holds_somewhere ranks Q distinct cube rest (other_list (cube ∷ rest) is) (λ d holds. holds (valid d))
 
-  module _ (cubes : List Cube) (is : IsSolution gives file ranks f cubes) (none : length cubes ≡ 0) where
-    pub false_always : (◌≡◌ {A = Answer} «False» «True») ↔ IsValid file s
-    false_always = (λ e. cc e, λ valid. absurd (not_both file s valid (no_cube cubes is none)))
-
-    pub false_never : (◌≡◌ {A = Answer} «False» «False») ↔ IsUnsatisfiable file s
-    false_never = (λ e. no_cube cubes is none, λ never. refl)
-
-  module _ (others : List Cube) (is : IsSolution gives file ranks (no f) others) (none : length others ≡ 0) where
-    pub true_always : (◌≡◌ {A = Answer} «True» «True») ↔ IsValid file s
-    true_always = (λ e. no_other others is none, λ valid. refl)
-
-    pub true_never : (◌≡◌ {A = Answer} «True» «False») ↔ IsUnsatisfiable file s
-    true_never = (λ e. cc e, λ never. absurd (not_both file s (no_other others is none) never))
+  -- over no variable, a list with a cube holds everywhere
+  pub closed_cube : (cubes : List Cube) → IsSolution gives file ranks f cubes → ¬ (length cubes ≡ 0) → length ranks ≡ 0 → IsValid file s
+  closed_cube [] is some closed d = absurd (some refl)
+  closed_cube (cube ∷ rest) is some closed d =
+      (Holds_stable file.signature (meaning_of file.signature file.preds) f d).holds (closed_holds ranks P closed cube rest (list (cube ∷ rest) is) d)
 
   -- ---- both lists have a cube
 
@@ -140,6 +149,9 @@ module _ (gives : ℕ → Norm → List Cube → Type 0) (file : File) (formed :
               let there = shown.means file.signature file.preds e in
               (λ h. here.0 (there.0 h), λ h. there.1 (here.1 h));
           fits = shown.fits file.signature fit;
+          symbols = subst (λ (h : Form). All (StandsIn file g) (form_symbols h)) (sym shown.body_is) (explicit_symbols (StandsIn file g) cubes is.symbols);
+          declared = fresh_declared (StandsIn file g) shown.first used a
+              (at_place (λ cube. All (StandsIn file g) (cube_symbols cube)) cubes 0 shown.first (flat_all (StandsIn file g) cube_symbols cubes is.symbols) shown.is_first) shown.fresh;
           satisfies = λ d trees.
               (is.solves d (by_rank ranks d) (gives_by_rank ranks d)).0
               (shown.holds file.signature (by_rank ranks d) fit
@@ -148,7 +160,7 @@ module _ (gives : ℕ → Norm → List Cube → Type 0) (file : File) (formed :
         }
 
     module _ (cubes others : List Cube) (is : IsSolution gives file ranks f cubes) (other : IsSolution gives file ranks (no f) others)
-        (some : ¬ (length cubes ≡ 0)) (some_more : ¬ (length others ≡ 0)) where
+        (some : ¬ (length cubes ≡ 0)) (not_closed : ¬ (length ranks ≡ 0)) (some_more : ¬ (length others ≡ 0)) where
       full : All IsNotEmpty cubes
       full =
           let (one, rest, at) = begins others some_more in
@@ -168,12 +180,7 @@ module _ (gives : ℕ → Norm → List Cube → Type 0) (file : File) (formed :
       other_can_be_shown = shows (no f) others other (λ p stands. stands) some_more other_full
 
       pub some_name : 0 < length (free_names s)
-      some_name =
-          let (one, rest, at) = begins cubes some in
-          let (two, more, at_2) = begins others some_more in
-          let many = some_rank ranks P Q (λ d holds fails. fails holds) distinct one rest (subst (λ (l : List Cube). IsListOf ranks P l) at (list cubes is)) two more
-          (subst (λ (l : List Cube). IsListOf ranks Q l) at_2 (other_list others other)) in
-          omega (arith, many, ap (λ (l : List ℕ). length l) ranks_are, length_names s.names (ranks_of s.body))
+      some_name = omega (arith, not_closed, ap (λ (l : List ℕ). length l) ranks_are, length_names s.names (ranks_of s.body))
 
       -- an answer that shows both lists
       module _ (result : Result Answer NoMemory) (shown : IfOk result (ShowsBoth names used cubes others)) where

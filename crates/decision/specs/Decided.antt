@@ -16,12 +16,13 @@ use Rattle.flat_form.specs.Numbering.{CubesOver}
 use Rattle.flat_form.specs.Reduced.{IsReduced}
 use Rattle.flat_form.specs.Symbols.{cubes_symbols}
 use Rattle.flattening.specs.Conditions.{GivesRanks}
+use Rattle.flattening.specs.Symbols.{form_symbols}
 use Rattle.game_library.specs.Entries.{IsGivenFor}
 use Rattle.game_library.specs.Solving.{StandsIn, SolvesForm}
 use Rattle.decision.specs.declared.answer.Answer.{Answer}
 use Rattle.decision.specs.declared.answer.Answer.TheVariants.{«True», «False», Open}
 use Rattle.decision.specs.Naming.{ranks_of, free_names, used_indexes}
-use Rattle.decision.specs.Shown.{ShowsCubes}
+use Rattle.decision.specs.Shown.{ShowsCubes, IsDeclared}
 
 -- the formula is satisfied, over the signature and the predicates of the file
 abbrev pub IsSatisfied : (file : File) → Form → Valuation file.signature → Type 0
@@ -51,6 +52,9 @@ module _ (gives : ℕ → Norm → List Cube → Type 0) (file : File) where
     pub formed : IsStatementOver file.signature solved
     pub solves : (d e : Valuation file.signature) → GivesRanks ranks d e → IsSatisfied file (form_of solved.body) e ↔ IsSatisfied file f d
     pub fits : Fits file.signature a.nodes
+    -- every symbol of the statement, and each declared one of the trees, stands in f or in the body of a predicate
+    pub symbols : All (StandsIn file f) (form_symbols (form_of solved.body))
+    pub declared : All (IsDeclared (StandsIn file f)) a.nodes
     pub satisfies : (d : Valuation file.signature) → GivesTrees ranks a d → IsSatisfied file f d
 
   -- an open answer of the statement: one side for its body, and one for the negation

@@ -1,6 +1,9 @@
 -- A list of cubes as it is shown: an explicit formula, and values under which its first cube holds.
 use Rattle.std.specs.Prelude.{◌≡◌, ◌↔◌, ℕ, List, [], length, All, slice_get, Some}
 use Rattle.lists.specs.Distinct.{IsDistinct}
+use Rattle.tree_model.specs.declared.tree.Node.{Node}
+use Rattle.tree_model.specs.declared.tree.Symbol.{Symbol}
+use Rattle.tree_model.specs.declared.tree.Symbol.TheVariants.{Named}
 use Rattle.tree_model.specs.Graphs.{Forest}
 use Rattle.tree_model.specs.Signatures.{Signature, Fits}
 use Rattle.tree_model.specs.Valuations.{Valuation}
@@ -21,6 +24,10 @@ use Rattle.decision.specs.declared.answer.Answer.{Answer}
 use Rattle.decision.specs.declared.answer.Answer.TheVariants.{«True», «False», Open}
 use Rattle.witness_trees.specs.Fresh.{IsFreshAssignment}
 use Rattle.witness_trees.specs.Values.{HasTreesOf, IndexesAreUsed}
+
+-- where the symbol of the node is a declared one, P holds of it and its number of arguments
+abbrev pub IsDeclared : (Symbol × ℕ → Type 0) → Node → Type 0
+IsDeclared P node = (i : ℕ) → node.symbol ≡ Named i → P (Named i, length node.children)
 
 -- what the cubes have to be so that they can be shown, over free variables with these names
 pub record CanBeShown (names : List (List ℕ)) (used : List ℕ) (cubes : List Cube) : Type 0 where

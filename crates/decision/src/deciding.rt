@@ -5,6 +5,7 @@ ghost use Rattle.formula_ast.specs.Valid.{IsValid, IsUnsatisfiable};
 ghost use Rattle.formula_ast.specs.WellFormed.{IsWellFormed, IsStatementOver};
 ghost use Rattle.flattening.specs.Conditions.{HasFreeVariables};
 ghost use Rattle.game_library.specs.Entries.{AreRight};
+ghost use Rattle.game_library.specs.Solving.{IsOverFile};
 ghost use Rattle.decision.specs.Decided.{IsSolution, OpensRightly};
 
 use crate::answer::Answer;
@@ -27,6 +28,26 @@ fn negation(alloc: Global, f: &Formula) -> Result<Formula, NoMemory>
     Ok(Formula::Not(Boxed::new(alloc, f.copy(alloc)?)?))
 }
 
+// The cubes of a formula of the file.
+fn solution<E: Engine>(
+    alloc: Global,
+    engine: &mut E,
+    file: &File,
+    f: &Formula,
+    ranks: &Places,
+    table: &mut Solved,
+) -> Result<Cubes, NoMemory>
+    requires file { IsWellFormed file.now }
+    requires over { IsOverFile file.now (form_of f.now) }
+    requires free { HasFreeVariables ranks.now (form_of f.now) }
+    requires table { AreRight E.gives file.now table.old }
+    ensures table { AreRight E.gives file.now table.new }
+    ensures solution { IfOk result (IsSolution E.gives file.now ranks.now (form_of f.now)) }
+{
+    let cubes = solve_by(alloc, engine, file, f, ranks, table)?;
+    Ok(cubes)
+}
+
 // The cubes of the negation.
 fn denied<E: Engine>(
     alloc: Global,
@@ -44,7 +65,7 @@ fn denied<E: Engine>(
     ensures solution { IfOk result (IsSolution E.gives file.now ranks.now (no (form_of s.now.body))) }
 {
     let negation = negation(alloc, &s.body)?;
-    let cubes = solve_by(alloc, engine, file, &negation, ranks, table)?;
+    let cubes = solution(alloc, engine, file, &negation, ranks, table)?;
     Ok(cubes)
 }
 
@@ -66,9 +87,13 @@ pub fn decide_by<E: Engine>(
     ensures open { IfOk result (OpensRightly E.gives file.now s.now) }
 {
     let ranks = free_variables(alloc, &s.body)?;
-    let cubes = solve_by(alloc, engine, file, &s.body, &ranks, table)?;
+    let cubes = solution(alloc, engine, file, &s.body, &ranks, table)?;
     if cubes.len() == 0 {
         return Ok(Answer::False);
+    }
+    // Over no variable, a reduced cube holds everywhere.
+    if ranks.len() == 0 {
+        return Ok(Answer::True);
     }
     let others = denied(alloc, engine, file, s, &ranks, table)?;
     if others.len() == 0 {
