@@ -1,5 +1,5 @@
 // Reads token by token, and keeps what is wrong with the next one until it is taken.
-ghost use Rattle.std.specs.Prelude.{◌≡◌, ◌≤◌, [], ◌∷◌, false, None, suc, nat_lt, length, slice_range, IsTrue, IfOk, IfErr, OnOk, MatchOption, MatchResult};
+ghost use Rattle.std.specs.Prelude.{◌≡◌, ◌≤◌, [], ◌∷◌, false, None, suc, nat_lt, length, slice_range, IsTrue, IfOk, IfErr, OnOk, MatchBool, MatchResult};
 ghost use Rattle.std.specs.Str.{IsAscii};
 ghost use Rattle.tree_model.specs.Signatures.{Signature as Entries};
 ghost use Rattle.formula_ast.specs.Tokens.{Stream, token};
@@ -169,16 +169,12 @@ impl<'a> Reader<'a> {
         Ok(Place { depth, ..place })
     }
 
-    // Where the next token begins, if there is one.
-    pub(crate) fn next_offset(&self) -> Option<usize>
-        ensures token { MatchOption result ((t : Token) (more : Stream) → ¬ (left_of self.now ≡ token t more))
-            (λ offset. (t : Token) × (more : Stream) × (left_of self.now ≡ token t more) × (t.from ≡ offset)) }
-        ensures place { IsPlace self.now.bytes self.now.at }
+    // Whether a token is left.
+    pub(crate) fn has_token(&self) -> bool
+        ensures { MatchBool result ((t : Token) × (more : Stream) × (left_of self.now ≡ token t more))
+            ((t : Token) (more : Stream) → ¬ (left_of self.now ≡ token t more)) }
     {
-        match self.next {
-            Ok(Some(token)) => Some(token.from),
-            _ => None,
-        }
+        matches!(self.next, Ok(Some(_)))
     }
 
     // Nothing is left, and nothing was wrong with that.
