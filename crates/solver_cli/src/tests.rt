@@ -4,6 +4,7 @@ mod faults;
 mod fronts;
 mod limits;
 mod open;
+mod predicates;
 
 use crate::{Status, report, run};
 use io_edge::{Failed, MemorySink, MemorySource, Source};
@@ -52,7 +53,7 @@ fn expect_ample(
     line: &[u8],
     shows: &str,
 ) -> Result<(), Fail> {
-    let mut out = MemorySink::new(alloc, 100)?;
+    let mut out = MemorySink::new(alloc, 10_000)?;
     expect_run(rt, alloc, source, &mut out, status, written, line, shows)
 }
 
