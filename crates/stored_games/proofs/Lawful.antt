@@ -10,7 +10,7 @@ use Rattle.formula_grammar.specs.Words.{WrittenStatement, statements_words}
 use Rattle.formula_grammar.specs.Grammar.{files, AreStatementsOf}
 use Rattle.formula_grammar.specs.Limits.{most_bytes}
 use Rattle.formula_grammar.specs.Names.{AreNamed}
-use Rattle.formula_grammar.specs.Within.{IsShort, AreWithin}
+use Rattle.formula_grammar.specs.Within.{AreWithin}
 use Rattle.formula_grammar.specs.FirstFault.{file_fault}
 use Rattle.written_files.specs.Files.{file_text}
 use Rattle.written_files.proofs.OfKinds.{statements_can_be_read}

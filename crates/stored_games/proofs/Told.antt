@@ -5,7 +5,7 @@ use Rattle.formula_ast.specs.contracts.token.TokenKind.{the_type}
 use Rattle.formula_ast.specs.declared.token.TokenKind.{TokenKind}
 use Rattle.formula_ast.specs.Tokens.{Word, kind_of}
 use Rattle.formula_grammar.specs.Words.{same, has_text}
-use Rattle.written_files.specs.WrittenLaws.{IsOfItsKind, AreOfTheirKinds}
+use Rattle.written_files.specs.WrittenLaws.{AreOfTheirKinds}
 
 abbrev is_that : Option TokenKind → TokenKind → Bool
 is_that None kind = false
