@@ -52,7 +52,7 @@ fn expect_ample(
     line: &[u8],
     shows: &str,
 ) -> Result<(), Fail> {
-    let mut out = MemorySink::new(alloc, 100)?;
+    let mut out = MemorySink::new(alloc, 10_000)?;
     expect_run(rt, alloc, source, &mut out, status, written, line, shows)
 }
 
