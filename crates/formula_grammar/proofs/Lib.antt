@@ -24,4 +24,3 @@ pub mod Declarations
 pub mod FormedFiles
 pub mod Reasons
 pub mod Behind
-pub mod Stopping

@@ -7,7 +7,7 @@ use Rattle.tree_model.specs.declared.kind.Kind.TheVariants as kind
 use Rattle.tree_model.specs.Signatures.{Signature, Entry, declared_at}
 use Rattle.signature.specs.Names.{place_of}
 use Rattle.formula_grammar.specs.declared.fault.FaultKind.{FaultKind}
-use Rattle.formula_grammar.specs.declared.fault.FaultKind.TheVariants.{Byte, Ended, Syntax, Unknown, Twice, Loose, Arity, Sort, Limit, NotBuilt}
+use Rattle.formula_grammar.specs.declared.fault.FaultKind.TheVariants.{Byte, Ended, Syntax, Unknown, Twice, Loose, Arity, Sort, Limit}
 use Rattle.formula_grammar.specs.Limits.{longest_name, most_arguments, most_parameters, most_symbols, most_predicates, greatest_index, most_moves, deepest_nesting, most_joints}
 use Rattle.formula_grammar.specs.Written.{Text, named, further}
 use Rattle.formula_grammar.specs.Machine.{Role, begins, opens, declares, has_arity, declares_predicate, has_parameter, ends_predicate, joins, binds, stands, heads, begins_atom, opens_arguments, no_arguments, separates, closes, compares, stands_alone, plays, counts}
@@ -140,7 +140,6 @@ rank Loose = 5
 rank Arity = 6
 rank Sort = 7
 rank Limit = 8
-rank NotBuilt = 9
 
 -- the one of two that counts
 abbrev pub sooner : Option FaultKind → Option FaultKind → Option FaultKind

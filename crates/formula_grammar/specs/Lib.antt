@@ -15,4 +15,3 @@ pub mod ReadingLaws
 pub mod WellFormedLaws
 pub mod Kinds
 pub mod KindLaws
-pub mod NotBuilt

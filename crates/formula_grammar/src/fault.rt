@@ -19,8 +19,6 @@ pub enum FaultKind {
     Sort,
     /// The input passes one of the limits on sizes and numbers.
     Limit,
-    /// The input is well formed, and asks for what is not built yet.
-    NotBuilt,
 }
 
 /// A fault, with the offset in bytes of the token or the byte at which it stands.

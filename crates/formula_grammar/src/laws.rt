@@ -2,7 +2,6 @@ ghost use Rattle.formula_grammar.specs.GrammarLaws.{OneFileReading, OneFormulaRe
 ghost use Rattle.formula_grammar.specs.ReadingLaws.{LawfulFilesAreFaultless, LawfulFormulasAreFaultless, NeverBoth, NeverBothOfFormula, FilesOrFault, StatementsOrFault, OneFile, OneStatement};
 ghost use Rattle.formula_grammar.specs.WellFormedLaws.{FilesAreWellFormed, StatementsAreWellFormed};
 ghost use Rattle.formula_grammar.specs.KindLaws.{FileKindsSayWhy, FormulaKindsSayWhy, FileFaultsLookNoFurther, FormulaFaultsLookNoFurther};
-ghost use Rattle.formula_grammar.specs.NotBuilt.{NeverBothBuilt, OneFault};
 
 /// The first fault stands where the grammar alone says: an unfinished input at its end, a word that no whole text has
 /// there at this word, and every other fault behind a front of a whole text. A text without a fault is a whole text. A
@@ -52,11 +51,4 @@ pub fn kinds_say_why()
     ensures formulas { FormulaKindsSayWhy }
     ensures files_no_further { FileFaultsLookNoFurther }
     ensures formulas_no_further { FormulaFaultsLookNoFurther }
-{}
-
-/// A text that reads as a file that is answered by now has no first fault, and no text has two, where a statement that is
-/// not answered yet counts as one behind all others. A law: it does nothing when it runs.
-pub fn at_most_one_fault()
-    ensures never_both { NeverBothBuilt }
-    ensures one_fault { OneFault }
 {}

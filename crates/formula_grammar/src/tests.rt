@@ -9,5 +9,4 @@ fn laws_can_be_called(_rt: HostRuntime) {
     at_most_one_outcome();
     files_are_well_formed();
     kinds_say_why();
-    at_most_one_fault();
 }

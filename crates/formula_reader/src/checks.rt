@@ -54,7 +54,6 @@ fn rank(kind: FaultKind) -> usize
         FaultKind::Arity => 6,
         FaultKind::Sort => 7,
         FaultKind::Limit => 8,
-        FaultKind::NotBuilt => 9,
     }
 }
 

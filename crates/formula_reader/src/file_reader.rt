@@ -1,9 +1,8 @@
 // Reads whole texts.
 ghost use Rattle.std.specs.Prelude.{◌≡◌, Some, IfOk, IfErr};
 ghost use Rattle.formula_ast.specs.WellFormed.{IsWellFormed, IsStatementOver};
-ghost use Rattle.formula_grammar.specs.FirstFault.{formula_fault};
-ghost use Rattle.formula_grammar.specs.Reading.{ReadsAsFormula};
-ghost use Rattle.formula_grammar.specs.NotBuilt.{ReadsBuilt, IsFirstFault};
+ghost use Rattle.formula_grammar.specs.FirstFault.{file_fault, formula_fault};
+ghost use Rattle.formula_grammar.specs.Reading.{ReadsAs, ReadsAsFormula};
 ghost use Rattle.formula_grammar.specs.WellFormedLaws.{HasFewArguments};
 ghost use Rattle.formula_reader.specs.Refusals.{IsRefusedWith};
 
@@ -19,12 +18,11 @@ use std::alloc::Global;
 /// The greatest number of bytes that a file may have.
 pub const MOST_BYTES: usize = 1_048_576;
 
-/// Reads a file: declarations of symbols, definitions of predicates, and questions. What is not answered yet is refused as
-/// not built, at its first statement, behind every other fault.
+/// Reads a file: declarations of symbols, definitions of predicates, and questions.
 pub fn read_file(alloc: Global, bytes: &[u8]) -> Result<File, ReadError>
-    ensures file { IfOk result (λ file. ReadsBuilt bytes.now file) }
+    ensures file { IfOk result (λ file. ReadsAs bytes.now file) }
     ensures well_formed { IfOk result (λ file. IsWellFormed file) }
-    ensures refused { IfErr result (λ error. IsRefusedWith error (λ fault. IsFirstFault bytes.now fault)) }
+    ensures refused { IfErr result (λ error. IsRefusedWith error (λ fault. file_fault bytes.now ≡ Some fault)) }
 {
     if bytes.len() > MOST_BYTES {
         return Err(refused(MOST_BYTES, FaultKind::Limit));
@@ -35,18 +33,11 @@ pub fn read_file(alloc: Global, bytes: &[u8]) -> Result<File, ReadError>
         preds: Preds::new(alloc),
         solves: Statements::new(alloc),
     };
-    let mut not_built = None;
-    'statements: while let Some(offset) = reader.next_offset() {
-        let built = reader.statement(alloc, &mut file)?;
-        if !built && not_built.is_none() {
-            not_built = Some(offset);
-        }
+    'statements: while reader.has_token() {
+        reader.statement(alloc, &mut file)?;
     }
     reader.finish()?;
-    match not_built {
-        None => Ok(file),
-        Some(offset) => Err(refused(offset, FaultKind::NotBuilt)),
-    }
+    Ok(file)
 }
 
 /// Reads one formula up to the end of the bytes, with the names of a signature declared.

@@ -5,7 +5,7 @@ use Rattle.std.proofs.Math.Nat.{eq-or-lt_of_le}
 use Rattle.std.proofs.KnownBytes.{Appends-nil, Appends-trans}
 use Rattle.std.specs.Io.KnownBytes.{Appends}
 use Rattle.io_edge.specs.declared.failed.Failed.{Failed}
-use Rattle.solver_cli.specs.Language.{File, ReadsBuilt, Answered}
+use Rattle.solver_cli.specs.Language.{File, ReadsAs, Answered}
 use Rattle.solver_cli.specs.Writing.{WritesWhole, WritesEach, IsWhole, IsCut}
 use Rattle.solver_cli.specs.Writing.WritesEach.{none, next}
 use Rattle.solver_cli.proofs.Laws.{reads_within}
@@ -40,7 +40,7 @@ pub record Reached {O : Type 0} (writes : O → List ℕ → Result ℕ Failed �
   pub count : faults old ≤ faults now
 
 module _ {O : Type 0} (writes : O → List ℕ → Result ℕ Failed → O → Type 0) (taken : O → Option (List ℕ)) (faults : O → ℕ) (bytes : List ℕ) (file : File) where
-  pub begun : (old : O) → ReadsBuilt bytes file → Reached writes taken faults bytes file 0 old old
+  pub begun : (old : O) → ReadsAs bytes file → Reached writes taken faults bytes file 0 old old
   begun old reads = record {
     so_far = record {
       within = reads_within bytes file reads;

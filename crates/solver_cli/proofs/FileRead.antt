@@ -6,14 +6,14 @@ use Rattle.std.proofs.Math.Seq.{take-append_seam}
 use Rattle.std.specs.Io.KnownBytes.{Consumes, IsAtEnd}
 use Rattle.io_edge.specs.declared.failed.Failed.{Failed}
 use Rattle.io_edge.specs.Edge.{IsFile, OpensAt, bytes_named}
-use Rattle.solver_cli.specs.Language.{File, Fault, ReadsBuilt, IsFirstFault}
+use Rattle.solver_cli.specs.Language.{File, Fault, ReadsAs, IsFirstFault}
 use Rattle.solver_cli.specs.Reading.{ReadsAll, Calls}
 use Rattle.solver_cli.specs.Reading.Calls.{all}
 use Rattle.solver_cli.specs.Files.{OfNamed}
 use Rattle.solver_cli.proofs.Laws.{one_fault, reads_within, long_fault, fault_of_long}
 
 -- a file that reads was taken whole
-pub whole_of_reads : (bytes : List ℕ) (file : File) → ReadsBuilt (take 1048577 bytes) file → take 1048577 bytes ≡ bytes
+pub whole_of_reads : (bytes : List ℕ) (file : File) → ReadsAs (take 1048577 bytes) file → take 1048577 bytes ≡ bytes
 whole_of_reads bytes file reads = ⊎_elim
     (λ long. absurd (omega (arith, length-take-le 1048577 bytes (omega (arith, long)), reads_within (take 1048577 bytes) file reads)))
     (λ short. take_all 1048577 bytes short)
@@ -90,8 +90,8 @@ module _ {S : Type 0} (opens : S → List ℕ → Result (Unit {0}) Failed → S
   fault_of_file old new taken fault of is = (of.0, of.1, fault_of_taken of.0 fault (subst (λ (l : List ℕ). IsFirstFault l fault) of.2 is))
 
   -- where what was taken reads as a file, it is the whole file
-  pub reads_of_file : (old new : S) (taken : List ℕ) (P : List ℕ → Type 0) (file : File) → OfNamed opens reads left files name old new (λ file. taken ≡ take 1048577 file) → ReadsBuilt taken file → P taken
+  pub reads_of_file : (old new : S) (taken : List ℕ) (P : List ℕ → Type 0) (file : File) → OfNamed opens reads left files name old new (λ file. taken ≡ take 1048577 file) → ReadsAs taken file → P taken
       → OfNamed opens reads left files name old new P
   reads_of_file old new taken P file of reads_as holds =
-      let whole : take 1048577 of.0 ≡ of.0 = whole_of_reads of.0 file (subst (λ (l : List ℕ). ReadsBuilt l file) of.2 reads_as) in
+      let whole : take 1048577 of.0 ≡ of.0 = whole_of_reads of.0 file (subst (λ (l : List ℕ). ReadsAs l file) of.2 reads_as) in
       (of.0, of.1, subst P (of.2 ∙ whole) holds)

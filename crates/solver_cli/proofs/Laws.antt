@@ -3,26 +3,22 @@ use Rattle.std.proofs.Common.{◌≡◌, ℕ, ◌≤◌, ◌<◌, List, length, 
 use Rattle.std.proofs.lemmas.Bool.{lt-ltb}
 use Rattle.formula_grammar.specs.declared.fault.FaultKind.TheVariants.{Limit}
 use Rattle.formula_grammar.specs.FirstFault.{file_fault}
-use Rattle.formula_grammar.specs.NotBuilt.IsFirstFault.{found}
-use Rattle.formula_grammar.proofs.Stopping as stopping
-use Rattle.solver_cli.specs.Language.{File, Fault, ReadsBuilt, IsFirstFault}
+use Rattle.formula_grammar.proofs.Outcomes as outcomes
+use Rattle.solver_cli.specs.Language.{File, Fault, ReadsAs, IsFirstFault}
 
-pub never_both : (bytes : List ℕ) (file : File) (fault : Fault) → ReadsBuilt bytes file → IsFirstFault bytes fault → ⊥
-never_both = stopping.never_both_built
+pub never_both : (bytes : List ℕ) (file : File) (fault : Fault) → ReadsAs bytes file → IsFirstFault bytes fault → ⊥
+never_both = outcomes.never_both
 
 pub one_fault : (bytes : List ℕ) (a b : Fault) → IsFirstFault bytes a → IsFirstFault bytes b → a ≡ b
-one_fault = stopping.one_fault
+one_fault bytes a b is other = cc (is, other)
 
-pub reads_within : (bytes : List ℕ) (file : File) → ReadsBuilt bytes file → length bytes ≤ 1048576
-reads_within bytes file reads = reads.reads.reads.short
+pub reads_within : (bytes : List ℕ) (file : File) → ReadsAs bytes file → length bytes ≤ 1048576
+reads_within bytes file reads = reads.reads.short
 
 -- the one fault of all bytes that are too long
 abbrev pub long_fault : Fault
 long_fault = record { offset = 1048576; kind = Limit }
 
-long_is : (bytes : List ℕ) → 1048576 < length bytes → file_fault bytes ≡ Some long_fault
-unfolding file_fault
-long_is bytes long = rw (lt-ltb 1048576 (length bytes) long) refl
-
 pub fault_of_long : (bytes : List ℕ) → 1048576 < length bytes → IsFirstFault bytes long_fault
-fault_of_long bytes long = found (long_is bytes long)
+unfolding file_fault
+fault_of_long bytes long = rw (lt-ltb 1048576 (length bytes) long) refl

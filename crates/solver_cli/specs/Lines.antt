@@ -1,7 +1,7 @@
 -- The line on err and the exit status of each status.
 use Rattle.std.specs.Prelude.{ℕ, List, [], ◌++◌, decimal, codes}
 use Rattle.solver_cli.specs.Language.{Fault, FaultKind}
-use Rattle.formula_grammar.specs.declared.fault.FaultKind.TheVariants.{Byte, Ended, Syntax, Unknown, Twice, Loose, Arity, Sort, Limit, NotBuilt}
+use Rattle.formula_grammar.specs.declared.fault.FaultKind.TheVariants.{Byte, Ended, Syntax, Unknown, Twice, Loose, Arity, Sort, Limit}
 use Rattle.solver_cli.specs.declared.status.Status.{Status}
 use Rattle.solver_cli.specs.declared.status.Status.TheVariants.{Done, Refused, Usage, ReadFault, WriteFault, Memory}
 
@@ -15,7 +15,6 @@ kind_word Loose = codes "loose"
 kind_word Arity = codes "arity"
 kind_word Sort = codes "sort"
 kind_word Limit = codes "limit"
-kind_word NotBuilt = codes "notbuilt"
 
 -- the line of a fault
 abbrev pub fault_line : Fault → List ℕ

@@ -2,7 +2,7 @@
 use Rattle.std.specs.Prelude.{◌≡◌, ◌⊎◌, ℕ, ◌+◌, ◌<◌, ◌≤◌, List, [], length, get_or, Option, Result, flat_map}
 use Rattle.std.specs.Io.KnownBytes.{Appends}
 use Rattle.io_edge.specs.declared.failed.Failed.{Failed}
-use Rattle.solver_cli.specs.Language.{File, Fault, ReadsBuilt, IsFirstFault, Answered}
+use Rattle.solver_cli.specs.Language.{File, Fault, ReadsAs, IsFirstFault, Answered}
 use Rattle.solver_cli.specs.Writing.{WritesEach, IsCut}
 use Rattle.solver_cli.specs.declared.status.Status.{Status}
 use Rattle.solver_cli.specs.declared.status.Status.TheVariants.{Done, Refused}
@@ -21,7 +21,7 @@ joined texts = flat_map (λ text. text) texts
 pub record AnswersSoFar {O : Type 0} (writes : O → List ℕ → Result ℕ Failed → O → Type 0) (taken : O → Option (List ℕ)) (bytes : List ℕ) (old new : O) : Type 0 where
   pub within : length bytes ≤ 1048576
   pub file : File
-  pub reads : ReadsBuilt bytes file
+  pub reads : ReadsAs bytes file
   pub texts : List (List ℕ)
   pub right : AnswersFirst file texts
   pub calls : WritesEach writes old texts new
@@ -48,6 +48,6 @@ HasFault bytes = (fault : Fault) × IsFirstFault bytes fault
 
 -- bytes that read as a file give `Done`, and bytes with a first fault give `Refused`; one of the two they do
 pub record Completes (bytes : List ℕ) (status : Status) : Type 0 where
-  pub done : (file : File) → ReadsBuilt bytes file → status ≡ Done
+  pub done : (file : File) → ReadsAs bytes file → status ≡ Done
   pub refused : (fault : Fault) → IsFirstFault bytes fault → status ≡ Refused
-  pub either : ((file : File) × ReadsBuilt bytes file) ⊎ HasFault bytes
+  pub either : ((file : File) × ReadsAs bytes file) ⊎ HasFault bytes

@@ -35,7 +35,6 @@ fn kind_word(kind: FaultKind) -> &'static str
         FaultKind::Arity => "arity",
         FaultKind::Sort => "sort",
         FaultKind::Limit => "limit",
-        FaultKind::NotBuilt => "notbuilt",
     }
 }
 

@@ -4,6 +4,7 @@ mod faults;
 mod fronts;
 mod limits;
 mod open;
+mod predicates;
 
 use crate::{Status, report, run};
 use io_edge::{Failed, MemorySink, MemorySource, Source};
