@@ -16,6 +16,7 @@ import tempfile
 WANTED = 1000
 STATEMENTS = 10
 SECONDS = 60
+MOST_LATE = 100
 # What may stand in one statement is 1000 `&`, `|` and variables of quantifiers together; an answer stands in it with its question.
 JOINTS = 900
 FREE = ('X', 'Y', 'Z', 'V0')
@@ -108,6 +109,8 @@ def main(words, seed):
             again = run(words, path, head, short)
             if answers is None or again is None:
                 late += 1
+                if late == MOST_LATE:
+                    sys.exit('%d files are too slow' % late)
             else:
                 wrong = [q for q, a in zip(short, again) if a != ['true']]
                 if wrong:
