@@ -2,19 +2,21 @@ ghost use Rattle.std.specs.Prelude.{◌≡◌, ◌<◌, ◌≤◌, ◌+◌, leng
 ghost use Rattle.flat_form.specs.Numbering.{AtomOver, BasicOver, PartOver, IsWellNumbered};
 
 mod cases;
+mod game;
 
 use super::*;
 use cases::{COUNT, LOOPS, RANDOM};
 use flat_form::{Args, Basic, Cube, Flat, Part, Parts, is_same_cube};
+use game::GAME;
 use lists::NoMemory;
 use std::alloc::Global;
 use std::test::*;
 use tree_model::Symbol;
 
-// A cube is written as four digits, how many variables are free and how many outer, how many atoms follow and how many
-// parts. A part is two digits, how many variables are inner and how many atoms follow. An atom is `=` and two variables,
-// `!` and a variable, or a digit up to two, a variable, a symbol and as many variables. The variables are `A`, `B`, ... A symbol is
-// a letter for a name or a digit for a further one.
+// A cube is written as four numbers, how many variables are free and how many outer, how many atoms follow and how many
+// parts. A part is two numbers, how many variables are inner and how many atoms follow. An atom is `=` and two variables,
+// `!` and a variable, or a digit up to two, a variable, a symbol and as many variables. A number is the one of a byte, counted
+// from `0`, and so is a variable, counted from `A`. A symbol is a letter for a name or a digit for a further one.
 
 // The next byte, or a blank at the end.
 fn next(text: &[u8], at: &mut usize) -> u8 {
@@ -190,5 +192,12 @@ fn needed_variables_stay(rt: HostRuntime) -> Result<(), NoMemory> {
 #[test]
 fn parts_are_settled_again_as_they_then_stand(rt: HostRuntime) -> Result<(), NoMemory> {
     assert!(rt; are_right(rt.alloc(), LOOPS, 4)?);
+    Ok(())
+}
+
+// Cubes of more than three hundred atoms.
+#[test]
+fn large_cubes_reduce_as_defined(rt: HostRuntime) -> Result<(), NoMemory> {
+    assert!(rt; are_right(rt.alloc(), GAME, 2)?);
     Ok(())
 }

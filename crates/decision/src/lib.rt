@@ -7,6 +7,8 @@ mod deciding;
 mod naming;
 mod opening;
 mod sides;
+#[cfg(test)]
+mod tests;
 mod used;
 
 pub use answer::Answer;
