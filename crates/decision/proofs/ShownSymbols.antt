@@ -1,5 +1,5 @@
 -- The symbols of what is shown: a formula has those of its cubes, and an assignment has further symbols besides.
-use Rattle.std.proofs.Common.{◌≡◌, ◌==◌, ℕ, ◌+◌, Bool, true, false, cond, List, [], ◌∷◌, ◌++◌, length, map, All, refl, sym, ap, subst}
+use Rattle.std.proofs.Common.{◌≡◌, ◌==◌, ℕ, ◌+◌, Bool, true, false, cond, List, [], ◌∷◌, ◌++◌, length, map, All, sym, subst, ◌∙◌}
 use Rattle.std.specs.List.{range_with_len}
 use Rattle.std.specs.Prelude.{flat_map}
 use Rattle.std.proofs.lemmas.List.{length-map}
@@ -8,7 +8,6 @@ use Rattle.tree_model.specs.declared.tree.Node.{Node}
 use Rattle.tree_model.specs.declared.tree.Symbol.{Symbol}
 use Rattle.tree_model.specs.declared.tree.Symbol.TheVariants.{Named}
 use Rattle.tree_model.specs.Graphs.{Forest}
-use Rattle.formula_ast.specs.declared.term.Term.{Term}
 use Rattle.formula_ast.specs.declared.term.Term.TheVariants.{Var}
 use Rattle.formula_ast.specs.Forms.{Form, exists}
 use Rattle.formula_grammar.specs.Written.{Joint, and, or, imp, iff}
@@ -23,11 +22,12 @@ use Rattle.flattening.specs.Conditions.{count}
 use Rattle.flattening.specs.Plain.{term_of, terms_of, plain_of}
 use Rattle.flattening.specs.Symbols.{form_symbols}
 use Rattle.flattening.proofs.EachItem.{all_left, all_right, flat_all}
+use Rattle.flattening.proofs.Readings.{count_length}
 use Rattle.flattening.proofs.FormSymbols.{TermEach, TermsEach, FormEach, each_form}
 use Rattle.flattening.proofs.Ties.{variable_term, applied_term}
-use Rattle.explicit_form.specs.Explicit.{Denied, applied, atom_form, denied, denied_form, denied_part, explicit_cube, cube_form, explicit_of}
+use Rattle.explicit_form.specs.Explicit.{applied, atom_form, denied, denied_form, denied_part, cube_form, explicit_of}
 use Rattle.witness_trees.specs.Breadth.{node_of}
-use Rattle.witness_trees.specs.Fresh.{term_or, fresh_term, represented, index, label, IsFreshAssignment}
+use Rattle.witness_trees.specs.Fresh.{term_or, fresh_term, index, label, IsFreshAssignment}
 use Rattle.decision.specs.Shown.{IsDeclared}
 
 module _ (P : Symbol × ℕ → Type 0) where
@@ -41,8 +41,7 @@ module _ (P : Symbol × ℕ → Type 0) where
   variable_each v = subst (TermEach P) (sym (variable_term v)) tt
 
   variables_count : (xs : List ℕ) → count (terms_of (map (λ x. Var x) xs)) ≡ length xs
-  variables_count [] = refl
-  variables_count (x ∷ xs) = ap (λ n. 1 + n) (variables_count xs)
+  variables_count xs = sym (count_length (map (λ x. Var x) xs)) ∙ length-map xs (λ x. Var x)
 
   variables_each : (xs : List ℕ) → TermsEach P (terms_of (map (λ x. Var x) xs))
   variables_each [] = tt
@@ -92,6 +91,7 @@ module _ (P : Symbol × ℕ → Type 0) where
     where
       all_of : (bound : List ℕ) (basic : List Flat) → All P (basic_symbols basic) → Each (behind exists bound (conjunction (map atom_form basic)))
       all_of bound basic all = behind_each bound (conjunction (map atom_form basic)) (conjunction_each (map atom_form basic) (atoms_each basic all))
+
       by : (bound : List ℕ) (basic : List Flat) → Each (behind exists bound (conjunction (map atom_form basic))) → All P (basic_symbols basic)
           → Each (denied_form bound basic)
       by [] [] each all = each
