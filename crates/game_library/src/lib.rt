@@ -5,8 +5,6 @@ mod completing;
 mod entries;
 mod marks;
 mod solving;
-#[cfg(test)]
-mod tests;
 mod winning;
 
 pub use completing::complete;
