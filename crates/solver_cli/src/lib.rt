@@ -2,10 +2,13 @@
 #![tactic(auto)]
 
 mod answering;
+mod counting;
+mod inputs;
 mod reading;
 mod reporting;
 mod running;
 mod status;
+mod stop;
 #[cfg(test)]
 mod tests;
 mod writing;
