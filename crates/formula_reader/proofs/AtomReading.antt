@@ -20,7 +20,6 @@ use Rattle.formula_grammar.specs.Machine as m
 use Rattle.formula_grammar.specs.Machine.{Place, Stack, Role, Turn, deeper, row, comparison_row, unary_row, followed_by}
 use Rattle.formula_grammar.specs.Checks.{Environment, check, sooner}
 use Rattle.formula_grammar.specs.FirstFault.{fault_from}
-use Rattle.formula_grammar.specs.Names.{has_bound, is_bound}
 use Rattle.formula_grammar.specs.Meaning.{variables_of, variables_in, place_in, IsTerm, AreTerms, Stands, truth_form, comparer_form}
 use Rattle.formula_reader.specs.declared.error.ReadError.{ReadError}
 use Rattle.formula_reader.specs.declared.place.Place.{Place as PlaceRead}
@@ -28,16 +27,16 @@ use Rattle.formula_reader.specs.declared.parsed.Comparer.{Comparer as ComparerRe
 use Rattle.formula_reader.specs.Input.{Input, Scope, left_of, words_left, starts, text_ahead, environment, place_of}
 use Rattle.formula_reader.specs.Kinds.{comparer_of}
 use Rattle.formula_reader.specs.Faults.{fault_of, fault_with, Takes, TakesWord, Stops, RefusesAt, KeepsNames}
-use Rattle.formula_reader.specs.Reads.{IsRead, Reads, IsOperand, TakesParen, comparison_words, comparison_variables, comparison_bound, IsComparison}
+use Rattle.formula_reader.specs.Reads.{IsRead, Reads, IsOperand, TakesParen, comparison_words, comparison_variables, IsComparison}
 use Rattle.formula_reader.proofs.Steps.{ahead, words_taken, took_in, took_plain, stopped_in, stopped_plain, moved, complained, Blocks, not_starting}
 use Rattle.formula_reader.proofs.Reading.{Complains, same_place, kept_place, enclosed, both, nothing_read}
 use Rattle.formula_reader.proofs.TermReading.{ReadTerm, ReadArguments, at_inner}
 
 abbrev pub ReadOperand : ℕ → Signature → Input → Input → Formula → Type 0
-ReadOperand n σ old new f = IsRead formula_words variables_in is_bound (IsOperand n) σ old new f
+ReadOperand n σ old new f = IsRead formula_words variables_in (IsOperand n) σ old new f
 
 abbrev pub ReadComparison : Signature → Input → Input → ComparerRead × Term → Type 0
-ReadComparison σ old new c = IsRead comparison_words comparison_variables comparison_bound IsComparison σ old new c
+ReadComparison σ old new c = IsRead comparison_words comparison_variables IsComparison σ old new c
 
 -- ---- the parenthesis behind `finite` or `win`
 
@@ -122,8 +121,8 @@ compares_behind σ old new f c next is wrong_is s =
 pub comparison_read : {σ : Signature} {old mid new : Input} {t : Term} (r : Comparer) (read : ComparerRead) → comparer_of read ≡ r → words_left old ≡ mark (comparer_kind r) ∷ words_left mid
     → KeepsNames old mid → mid.bytes ≡ old.bytes → old.at ≤ mid.at → ReadTerm σ mid new t → ReadComparison σ old new (read, t)
 comparison_read r read is text keeps bytes on q =
-    enclosed comparison_words comparison_variables comparison_bound IsComparison (λ w. record { comparer = r; right = w }) (λ w. refl) (λ xs w. refl) keeps q
-    (record { scope = refl; loose = refl }) (λ names one. (is, one)) (text ∙ ap (λ ws. mark (comparer_kind r) ∷ ws) q.text) bytes refl on (omega arith)
+    enclosed comparison_words comparison_variables IsComparison (λ w. record { comparer = r; right = w }) (λ w. refl) keeps q
+    (record { scope = refl }) (λ names one. (is, one)) (text ∙ ap (λ ws. mark (comparer_kind r) ∷ ws) q.text) bytes refl on (omega arith)
 
 -- and what stands before it
 compared_stands : (σ : Signature) (names : List Text) (w v : WrittenTerm) (t u : Term) (r : Comparer) (f : Form) → f ≡ comparer_form r t u → IsTerm σ names w t → IsTerm σ names v u
@@ -133,7 +132,7 @@ compared_stands σ names w v t u r f is left right = (t, u, is, left, right)
 pub compared_read : {σ : Signature} {old mid new : Input} {t : Term} {c : ComparerRead × Term} {f : Formula} → ReadTerm σ old mid t → ReadComparison σ mid new c
     → form_of f ≡ comparer_form (comparer_of c.0) t c.1 → ReadOperand 5 σ old new f
 compared_read {σ} {t = t} {c = c} {f = f} left q is =
-    both formula_words variables_in is_bound (IsOperand 5) (λ w v. compared v.comparer w v.right) (λ w v. refl) (λ xs w v. refl) left q
+    both formula_words variables_in (IsOperand 5) (λ w v. compared v.comparer w v.right) (λ w v. refl) left q
     (λ names one two. record {
       strong = omega arith;
       levelled = tt;
@@ -145,20 +144,20 @@ compared_read {σ} {t = t} {c = c} {f = f} left q is =
 pub comparison_behind : {σ : Signature} {old mid new : Input} {c : ComparerRead × Term} → words_left old ≡ words_left mid → KeepsNames old mid → mid.bytes ≡ old.bytes → old.at ≤ mid.at
     → ReadComparison σ mid new c → ReadComparison σ old new c
 comparison_behind text keeps bytes on q =
-    enclosed comparison_words comparison_variables comparison_bound IsComparison (λ w. w) (λ w. refl) (λ xs w. refl) keeps q (record { scope = refl; loose = refl })
+    enclosed comparison_words comparison_variables IsComparison (λ w. w) (λ w. refl) keeps q (record { scope = refl })
     (λ names is. is) (text ∙ q.text) bytes refl on (omega arith)
 
 -- ---- an atom with one term in parentheses
 
 -- its last parenthesis was read
-pub wrapped_read : (make : WrittenTerm → WrittenFormula) → ((w : WrittenTerm) → variables_in (make w) ≡ variables_of w) → ((xs : List Text) (w : WrittenTerm) → is_bound xs (make w) ≡ has_bound xs w)
+pub wrapped_read : (make : WrittenTerm → WrittenFormula) → ((w : WrittenTerm) → variables_in (make w) ≡ variables_of w)
     → {σ : Signature} {old mid behind new : Input} {t : Term} {f : Formula} → KeepsNames old mid → mid.bytes ≡ old.bytes → old.at ≤ mid.at
     → (r : ReadTerm σ mid behind t) → TakesWord (m.plain k.RightParen) (mark k.RightParen) σ behind new
     → ((names : List Text) (w : WrittenTerm) → IsTerm σ names w t → IsOperand 5 σ names (make w) f)
     → ((w : WrittenTerm) → words_left mid ≡ term_words w (mark k.RightParen ∷ words_left new) → words_left old ≡ formula_words (make w) (words_left new))
     → ReadOperand 5 σ old new f
-wrapped_read make variables_are bound_are keeps bytes on r last is text =
-    enclosed formula_words variables_in is_bound (IsOperand 5) make variables_are bound_are keeps r last.keeps (λ names one. is names r.written one)
+wrapped_read make variables_are keeps bytes on r last is text =
+    enclosed formula_words variables_in (IsOperand 5) make variables_are keeps r last.keeps (λ names one. is names r.written one)
     (text r.written (r.text ∙ ap (λ ws. term_words r.written ws) last.words)) bytes last.bytes on (omega (arith, last.on))
 
 -- ---- words that are atoms
@@ -176,10 +175,10 @@ module _ (value : Bool) (kind : TokenKind) (is : kind ≡ truth_kind value) (σ 
   row_here = ap (λ of. row (m.operand 5 (place_of old p)) (ahead of old)) is ∙ truth_row value (place_of old p) (text_ahead old)
 
   pub truth_read : {new : Input} {f : Formula} → Takes None old new → KeepsNames old new → new.joints ≡ old.joints → form_of f ≡ truth_form value
-      → Reads formula_words variables_in is_bound (IsOperand 5) (m.operand 5 (place_of old p)) σ old new f
+      → Reads formula_words variables_in (IsOperand 5) (m.operand 5 (place_of old p)) σ old new f
   truth_read {new} takes keeps joints form = record {
     faults = took_plain kind next takes σ (m.operand 5 (place_of old p)) [] row_here joints;
-    read = nothing_read formula_words variables_in is_bound (IsOperand 5) (truth value) refl (λ xs. refl) keeps
+    read = nothing_read formula_words variables_in (IsOperand 5) (truth value) refl keeps
         (λ names. record { strong = omega arith; levelled = tt; stands = form })
         (words_taken kind next takes ∙ ap (λ of. ahead of old ∷ words_left new) is ∙ ap (λ w. w ∷ words_left new) (truth_mark value (text_ahead old)))
         takes.bytes (omega (arith, takes.on));
@@ -215,7 +214,7 @@ call_stands σ names f ws ts g is are = (ts, is, are)
 pub call_read : {σ : Signature} {old mid behind new : Input} {ts : Terms} {f : Formula} (name : Text) → words_left old ≡ word k.Name name ∷ words_left mid → KeepsNames old mid → mid.bytes ≡ old.bytes
     → old.at ≤ mid.at → ReadArguments σ mid behind ts → Complains behind new → form_of f ≡ form.call (place_in σ name) (list_of ts) → ReadOperand 5 σ old new f
 call_read {σ} {ts = ts} {f = f} name text keeps bytes on r said is =
-    enclosed formula_words variables_in is_bound (IsOperand 5) (λ ws. call name ws) (λ ws. refl) (λ xs ws. refl) keeps r said.keeps
+    enclosed formula_words variables_in (IsOperand 5) (λ ws. call name ws) (λ ws. refl) keeps r said.keeps
     (λ names are. record { strong = omega arith; levelled = tt; stands = call_stands σ names name r.written (list_of ts) (form_of f) is are })
     (text ∙ ap (λ ws. word k.Name name ∷ ws) (r.text ∙ ap (λ ws. arguments_words r.written ws) said.text)) bytes said.bytes on said.on
 

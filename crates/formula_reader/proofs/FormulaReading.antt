@@ -1,5 +1,5 @@
 -- Formulas are read by their operands and signs.
-use Rattle.std.proofs.Common.{◌≡◌, ℕ, suc, ◌+◌, ◌≤◌, ◌<◌, true, false, not, ◌||◌, List, [], ◌∷◌, ◌++◌, length, map, drop, take, Option, Some, None, refl, sym, ◌∙◌, ap, subst, append_assoc, add-one, length-append, arith}
+use Rattle.std.proofs.Common.{◌≡◌, ℕ, suc, ◌+◌, ◌≤◌, ◌<◌, true, false, List, [], ◌∷◌, ◌++◌, length, map, drop, take, Option, Some, None, refl, sym, ◌∙◌, ap, subst, append_assoc, add-one, length-append, arith}
 use Rattle.std.specs.Prelude.{Result, Ok, Err, OnOk, IfOk, IfErr, MatchResult, if◌then◌else◌}
 use Rattle.std.specs.Option.{option_map}
 use Rattle.tree_model.specs.Signatures.{Signature}
@@ -18,7 +18,6 @@ use Rattle.formula_grammar.specs.Machine as m
 use Rattle.formula_grammar.specs.Machine.{Place, Stack, Symbol, Role, Turn, deeper, binding, tails, unary_row, variables_row, followed_by, turned, row}
 use Rattle.formula_grammar.specs.Checks.{Environment, check, check_all, update_all, sooner}
 use Rattle.formula_grammar.specs.FirstFault.{fault_from}
-use Rattle.formula_grammar.specs.Names.{is_bound}
 use Rattle.formula_grammar.specs.Meaning.{variables_in, first_occurrences, number_in, Stands, joint_form, quantifier_form, behind}
 use Rattle.formula_reader.specs.declared.error.ReadError.{ReadError}
 use Rattle.formula_reader.specs.declared.error.ReadError.TheVariants.{Refused, NoMemory}
@@ -26,7 +25,7 @@ use Rattle.formula_reader.specs.declared.place.Place.{Place as PlaceRead}
 use Rattle.formula_reader.specs.Input.{Input, Scope, added, left_of, words_left, starts, text_ahead, environment, place_of}
 use Rattle.formula_reader.specs.Kinds.{chains, nests}
 use Rattle.formula_reader.specs.Faults.{fault_of, fault_with, move_with, Takes, TakesWord, Stops, RefusesAt, KeepsNames}
-use Rattle.formula_reader.specs.Reads.{IsRead, IsOperand, Bound, bound_words, bound_variables, bound_bound, IsQuantified, ReadsSign}
+use Rattle.formula_reader.specs.Reads.{IsRead, IsOperand, Bound, bound_words, bound_variables, IsQuantified, ReadsSign}
 use Rattle.formula_reader.proofs.Steps.{ahead, words_taken, only_itself, took, took_in, took_plain, stopped, stopped_in, plainly, nothing_more, skipped, blocked, Blocks, not_starting}
 use Rattle.formula_reader.proofs.Rooms.{room, less}
 use Rattle.formula_reader.proofs.NamesRead.{first_append}
@@ -35,7 +34,7 @@ use Rattle.formula_reader.proofs.TermReading.{at_inner}
 use Rattle.formula_reader.proofs.AtomReading.{ReadOperand}
 
 abbrev pub ReadQuantified : Quantifier → Signature → Input → Input → Formula → Type 0
-ReadQuantified q σ old new f = IsRead bound_words bound_variables bound_bound (IsQuantified q) σ old new f
+ReadQuantified q σ old new f = IsRead bound_words bound_variables (IsQuantified q) σ old new f
 
 -- ---- an operand is one of the next level, and what may be joined to it
 
@@ -97,7 +96,6 @@ weaker {m} {n} le r = record {
   written = r.written;
   text = r.text;
   scope = r.scope;
-  loose = r.loose;
   is = λ more. record { strong = omega (arith, le, (r.is more).strong); levelled = (r.is more).levelled; stands = (r.is more).stands };
   bytes = r.bytes;
   on = r.on;
@@ -116,10 +114,10 @@ pub joined_read : (j : Joint) {σ : Signature} {old mid one new : Input} {f g h 
     → KeepsNames mid one → one.bytes ≡ mid.bytes → mid.at ≤ one.at → ReadOperand (right j) σ one new g → form_of h ≡ joint_form j (form_of f) (form_of g)
     → ReadOperand (strength j) σ old new h
 joined_read j {σ} {old} {mid} {one} {new} {f} {g} {h} a text keeps bytes on b is =
-    let signed : IsRead (signed_words j) variables_in is_bound (IsOperand (right j)) σ mid new g =
-    enclosed (signed_words j) variables_in is_bound (IsOperand (right j)) (λ w. w) (λ w. refl) (λ xs w. refl) keeps b (record { scope = refl; loose = refl }) (λ names two. two)
+    let signed : IsRead (signed_words j) variables_in (IsOperand (right j)) σ mid new g =
+    enclosed (signed_words j) variables_in (IsOperand (right j)) (λ w. w) (λ w. refl) keeps b (record { scope = refl }) (λ names two. two)
     (text ∙ ap (λ ws. mark (sign j) ∷ ws) b.text) bytes refl on (omega arith) in
-    both formula_words variables_in is_bound (IsOperand (strength j)) (λ v w. joined j v w) (λ v w. refl) (λ xs v w. refl) a signed
+    both formula_words variables_in (IsOperand (strength j)) (λ v w. joined j v w) (λ v w. refl) a signed
     (λ names one two. record {
       strong = omega arith;
       levelled = (one.strong, two.strong, one.levelled, two.levelled);
@@ -260,7 +258,7 @@ no_stands σ names w f g is a = (f, is, a)
 pub no_read : {σ : Signature} {old mid new : Input} {f g : Formula} → words_left old ≡ mark k.Tilde ∷ words_left mid → KeepsNames old mid → mid.bytes ≡ old.bytes → old.at ≤ mid.at
     → ReadOperand 5 σ mid new f → form_of g ≡ form.no (form_of f) → ReadOperand 5 σ old new g
 no_read {σ} {f = f} {g = g} text keeps bytes on r is =
-    enclosed formula_words variables_in is_bound (IsOperand 5) (λ w. no w) (λ w. refl) (λ xs w. refl) keeps r (record { scope = refl; loose = refl })
+    enclosed formula_words variables_in (IsOperand 5) (λ w. no w) (λ w. refl) keeps r (record { scope = refl })
     (λ names one. record {
       strong = omega arith;
       levelled = (one.strong, one.levelled);
@@ -271,14 +269,14 @@ no_read {σ} {f = f} {g = g} text keeps bytes on r is =
 pub group_read : {σ : Signature} {old mid behind new : Input} {f : Formula} → words_left old ≡ mark k.LeftParen ∷ words_left mid → KeepsNames old mid → mid.bytes ≡ old.bytes → old.at ≤ mid.at
     → ReadOperand 1 σ mid behind f → TakesWord (m.plain k.RightParen) (mark k.RightParen) σ behind new → ReadOperand 5 σ old new f
 group_read text keeps bytes on r last =
-    enclosed formula_words variables_in is_bound (IsOperand 5) (λ w. group w) (λ w. refl) (λ xs w. refl) keeps r last.keeps
+    enclosed formula_words variables_in (IsOperand 5) (λ w. group w) (λ w. refl) keeps r last.keeps
     (λ names one. record { strong = omega arith; levelled = one.levelled; stands = one.stands })
     (text ∙ ap (λ ws. mark k.LeftParen ∷ ws) (r.text ∙ ap (λ ws. formula_words r.written ws) last.words)) bytes last.bytes on (omega (arith, last.on))
 
 pub quantified_read : (q : Quantifier) {σ : Signature} {old mid new : Input} {f : Formula} → words_left old ≡ mark (quantifier_kind q) ∷ words_left mid → KeepsNames old mid → mid.bytes ≡ old.bytes
     → old.at ≤ mid.at → ReadQuantified q σ mid new f → ReadOperand 5 σ old new f
 quantified_read q text keeps bytes on r =
-    enclosed formula_words variables_in is_bound (IsOperand 5) (λ b. quantified q b.first b.more b.body) (λ b. refl) (λ xs b. refl) keeps r (record { scope = refl; loose = refl })
+    enclosed formula_words variables_in (IsOperand 5) (λ b. quantified q b.first b.more b.body) (λ b. refl) keeps r (record { scope = refl })
     (λ names one. one) (text ∙ ap (λ ws. mark (quantifier_kind q) ∷ ws) r.text) bytes refl on (omega arith)
 
 -- ---- the variables of a quantifier
@@ -290,7 +288,6 @@ pub record Binds (σ : Signature) (p : PlaceRead) (old now : Input) : Type 0 whe
   pub faults : (s : Stack) → fault_of σ old (m.bound_variable (place_of old p) ∷ s) ≡ fault_of σ now (m.more_variables (place_of now p) ∷ s)
   pub text : words_left old ≡ word k.Variable first ∷ variables_words more (words_left now)
   pub scope : now.scope ≡ record { names = first_occurrences old.scope.names (first ∷ more); bound = old.scope.bound ++ first ∷ more }
-  pub loose : now.loose ≡ old.loose
   pub bytes : now.bytes ≡ old.bytes
   pub on : old.at ≤ now.at
   pub less : room now < room old
@@ -309,21 +306,20 @@ module _ (σ : Signature) (p : PlaceRead) (old new : Input) (next : starts k.Var
       took_in k.Variable next (takes σ) σ σ x (m.binds (text_ahead old)) (m.more_variables (binding (text_ahead old) (place_of old p)) ∷ []) row_is refl (ap (environment σ) (sym joints)) s
       ∙ ap (λ (of : Scope). fault_of σ new (m.more_variables (record { depth = p.depth; bound = of.bound; closed = p.closed }) ∷ s)) (sym scope)
 
-  pub first_bound : new.loose ≡ old.loose → Binds σ p old new
-  first_bound loose = record {
+  pub first_bound : Binds σ p old new
+  first_bound = record {
     first = text_ahead old;
     more = [];
     faults = binds_next (m.bound_variable (place_of old p)) refl;
     text = words_taken k.Variable next (takes σ);
     scope = scope;
-    loose = loose;
     bytes = (takes σ).bytes;
     on = omega (arith, (takes σ).on);
     less = less (takes σ);
   }
 
-  pub next_bound : {start : Input} → Binds σ p start old → new.loose ≡ old.loose → Binds σ p start new
-  next_bound {start} far loose =
+  pub next_bound : {start : Input} → Binds σ p start old → Binds σ p start new
+  next_bound {start} far =
       let further = less (takes σ) in
       record {
         first = far.first;
@@ -337,7 +333,6 @@ module _ (σ : Signature) (p : PlaceRead) (old new : Input) (next : starts k.Var
             (sym (first_append start.scope.names (far.first ∷ far.more) (text_ahead old ∷ [])))
             ∙ ap (λ bound. record { names = first_occurrences start.scope.names (far.first ∷ far.more ++ text_ahead old ∷ []); bound = bound })
             (append_assoc start.scope.bound (far.first ∷ far.more) (text_ahead old ∷ []));
-        loose = loose ∙ far.loose;
         bytes = (takes σ).bytes ∙ far.bytes;
         on = omega (arith, far.on, (takes σ).on);
         less = omega (arith, further, far.less);
@@ -393,8 +388,6 @@ body_read q {σ} {p} {old} {now} {mid} {new} {f} {g} outer numbers far text keep
       scope = ap (λ (of : Scope). record { names = of.names; bound = take outer of.bound }) scope_is
           ∙ ap (λ n. record { names = first_occurrences old.scope.names (bound_variables b); bound = take n (old.scope.bound ++ far.first ∷ far.more) }) outer_is
           ∙ ap (λ bound. record { names = first_occurrences old.scope.names (bound_variables b); bound = bound }) (take_front old.scope.bound (far.first ∷ far.more));
-      loose = r.loose ∙ ap (λ x. x || not (is_bound mid.scope.bound r.written)) (keeps.loose ∙ far.loose)
-          ∙ ap (λ (of : Scope). old.loose || not (is_bound of.bound r.written)) (keeps.scope ∙ far.scope);
       is = λ more. record {
         strong = omega arith;
         levelled = ((r.is more).strong, (r.is more).levelled);

@@ -5,7 +5,6 @@ pub mod Checking
 pub mod Declaring
 pub mod FileReading
 pub mod Finding
-pub mod Fronts
 pub mod Keys
 pub mod NamesRead
 pub mod Numbers

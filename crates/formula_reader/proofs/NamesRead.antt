@@ -1,5 +1,5 @@
--- What reading one part behind another does to the names, and to whether a variable is loose.
-use Rattle.std.proofs.Common.{◌≡◌, Bool, true, false, not, ◌&&◌, ◌||◌, List, [], ◌∷◌, ◌++◌, refl, sym, ap, subst, ◌∙◌, append_assoc}
+-- What reading one part behind another does to the names.
+use Rattle.std.proofs.Common.{◌≡◌, Bool, true, false, List, [], ◌∷◌, ◌++◌, refl, sym, ap, subst, ◌∙◌, append_assoc}
 use Rattle.std.proofs.lemmas.List.{append-nil}
 use Rattle.std.specs.Prelude.{if◌then◌else◌}
 use Rattle.formula_grammar.specs.Written.{Text}
@@ -34,28 +34,3 @@ pub still : (P : List Text → Type 0) (old new xs : List Text) → new ≡ firs
 still P old new xs is holds more =
     let g = grows old xs in
     subst P (sym (ap (λ l. l ++ more) (is ∙ g.is) ∙ append_assoc old g.added more)) (holds (g.added ++ more))
-
--- what is read behind other names
-pub names_behind : (old mid new xs ys : List Text) → mid ≡ first_occurrences old xs → new ≡ first_occurrences mid ys → new ≡ first_occurrences old (xs ++ ys)
-names_behind old mid new xs ys first second = second ∙ ap (λ l. first_occurrences l ys) first ∙ sym (first_append old xs ys)
-
-pub loose_both : (x a b : Bool) → ((x || not a) || not b) ≡ (x || not (a && b))
-loose_both true true true = refl
-loose_both true true false = refl
-loose_both true false true = refl
-loose_both true false false = refl
-loose_both false true true = refl
-loose_both false true false = refl
-loose_both false false true = refl
-loose_both false false false = refl
-
-pub loose_none : (x : Bool) → x ≡ (x || not true)
-loose_none true = refl
-loose_none false = refl
-
-pub loose_behind : (x y z a b : Bool) → y ≡ (x || not a) → z ≡ (y || not b) → z ≡ (x || not (a && b))
-loose_behind x y z a b first second = second ∙ ap (λ l. l || not b) first ∙ loose_both x a b
-
-pub bound_last : (x : Bool) → (x && true) ≡ x
-bound_last true = refl
-bound_last false = refl

@@ -1,5 +1,5 @@
 -- Statements are read by their words and parts.
-use Rattle.std.proofs.Common.{◌≡◌, ℕ, ◌≤◌, ◌<◌, Bool, true, false, not, ◌||◌, List, [], ◌∷◌, ◌++◌, map, length, Option, Some, None, refl, sym, ap, ◌∙◌, subst, append_assoc, arith}
+use Rattle.std.proofs.Common.{◌≡◌, ℕ, ◌≤◌, ◌<◌, Bool, true, false, List, [], ◌∷◌, ◌++◌, map, length, Option, Some, None, refl, sym, ap, ◌∙◌, subst, append_assoc, arith}
 use Rattle.std.specs.Prelude.{if◌then◌else◌}
 use Rattle.std.proofs.lemmas.List.{append-nil, map_push}
 use Rattle.tree_model.specs.declared.kind.Kind.TheVariants as kind
@@ -22,7 +22,7 @@ use Rattle.formula_grammar.specs.Machine as m
 use Rattle.formula_grammar.specs.Machine.{Stack, declares, has_arity, declares_predicate, has_parameter, ends_predicate, row, empty, refused, turned, passed, passed_end, step, at_end}
 use Rattle.formula_grammar.specs.Checks.{Environment, check, entry_of, value_of}
 use Rattle.formula_grammar.specs.FirstFault.{fault_from}
-use Rattle.formula_grammar.specs.Names.{is_bound, symbol_entry}
+use Rattle.formula_grammar.specs.Names.{symbol_entry}
 use Rattle.formula_grammar.specs.Meaning.{variables_in, first_occurrences, Stands, Makes}
 use Rattle.formula_reader.specs.Input.{Input, Scope, left_of, words_left, starts, text_ahead, environment}
 use Rattle.formula_reader.specs.Faults.{at_next, fault_of, fault_with, move_with, ended_with, Takes, TakesWord, KeepsNames}
@@ -109,7 +109,7 @@ symbols_past {σ} {τ} {start} {now} r other s =
     r.faults s ∙ skipped τ now m.declarations refl (blocked k.Comma now m.declarations other (λ t no. rw no refl)) (m.plain k.Stop ∷ m.statements files ∷ s)
 
 pub symbols_read : {start now new : Input} (before after : File) → ReadsSymbols start now before.signature after.signature → starts k.Comma (left_of now) ≡ false
-    → TakesWord (m.plain k.Stop) (mark k.Stop) after.signature now new → after.preds ≡ before.preds → after.solves ≡ before.solves → ReadsStatement start new before after true
+    → TakesWord (m.plain k.Stop) (mark k.Stop) after.signature now new → after.preds ≡ before.preds → after.solves ≡ before.solves → ReadsStatement start new before after
 symbols_read {start} {now} {new} before after r other stop preds solves = record {
   written = record { first = mark k.Symbol; said = symbols r.first r.more };
   faults = λ s. symbols_past r other s ∙ stop.faults (m.statements files ∷ s);
@@ -117,7 +117,6 @@ symbols_read {start} {now} {new} before after r other stop preds solves = record
   opens = record { opened = refl; levelled = tt };
   makes = λ whole more m. subst (λ σ. Makes whole σ before.preds before.solves more) r.declared
       (subst (λ preds. Makes whole after.signature preds before.solves more) preds (subst (λ solves. Makes whole after.signature after.preds solves more) solves m));
-  is_built = (λ b. tt, λ b. refl);
   bytes = stop.bytes ∙ r.bytes;
   on = omega (arith, r.on, stop.on);
 }
@@ -126,16 +125,15 @@ symbols_read {start} {now} {new} before after r other stop preds solves = record
 
 pub parameter_read : {σ : Signature} {old new : Input} {wrong : Option FaultKind} → starts k.Variable (left_of old) ≡ true → Takes wrong old new
     → wrong ≡ check (environment σ old.joints) (has_parameter (text_ahead old) old.scope.bound) → new.joints ≡ old.joints
-    → new.scope ≡ record { names = old.scope.names ++ text_ahead old ∷ []; bound = old.scope.bound ++ text_ahead old ∷ [] } → new.loose ≡ old.loose
+    → new.scope ≡ record { names = old.scope.names ++ text_ahead old ∷ []; bound = old.scope.bound ++ text_ahead old ∷ [] }
     → ReadsParameter σ old new
-parameter_read {σ} {old} next takes wrong_is joints scope loose = record {
+parameter_read {σ} {old} next takes wrong_is joints scope = record {
   parameter = text_ahead old;
   faults = λ p s.
       took_in k.Variable next takes σ σ (m.parameter p old.scope.bound) (has_parameter (text_ahead old) old.scope.bound)
       (m.more_parameters p (old.scope.bound ++ text_ahead old ∷ []) ∷ []) refl wrong_is (ap (environment σ) (sym joints)) s;
   text = words_taken k.Variable next takes;
   scope = scope;
-  loose = loose;
   bytes = takes.bytes;
   on = takes.on;
 }
@@ -147,7 +145,6 @@ pub record ReadsSome (σ : Signature) (start now : Input) : Type 0 where
   pub faults : (p : Text) (s : Stack) → fault_of σ start (m.header p ∷ s) ≡ fault_of σ now (m.more_parameters p (first ∷ more) ∷ s)
   pub text : words_left start ≡ mark k.LeftParen ∷ word k.Variable first ∷ more_parameters_words more (words_left now)
   pub scope : now.scope ≡ record { names = first ∷ more; bound = first ∷ more }
-  pub loose : now.loose ≡ start.loose
   pub bytes : now.bytes ≡ start.bytes
   pub on : start.at < now.at
 
@@ -168,7 +165,6 @@ parameters_begin {σ} {start} {opened} {now} none next takes joints keeps r =
       text = words_taken k.LeftParen next takes ∙ ap (λ ws. mark k.LeftParen ∷ ws) r.text;
       scope = r.scope ∙ ap (λ xs. scope_with (xs ++ r.parameter ∷ []) (opened.scope.bound ++ r.parameter ∷ [])) no_names
           ∙ ap (λ xs. scope_with (r.parameter ∷ []) (xs ++ r.parameter ∷ [])) no_bound;
-      loose = r.loose ∙ keeps.loose;
       bytes = r.bytes ∙ takes.bytes;
       on = omega (arith, takes.on, r.on);
     }
@@ -194,7 +190,6 @@ parameters_more {σ} {start} {now} {behind} {new} r next takes joints keeps q =
           ∙ ap (λ ws. mark k.LeftParen ∷ word k.Variable r.first ∷ ws) (sym (push_parameters r.more q.parameter (words_left new)));
       scope = q.scope ∙ ap (λ xs. scope_with (xs ++ q.parameter ∷ []) (behind.scope.bound ++ q.parameter ∷ [])) names_are
           ∙ ap (λ xs. scope_with ((r.first ∷ r.more) ++ q.parameter ∷ []) (xs ++ q.parameter ∷ [])) bound_is;
-      loose = q.loose ∙ keeps.loose ∙ r.loose;
       bytes = q.bytes ∙ takes.bytes ∙ r.bytes;
       on = omega (arith, r.on, takes.on, q.on);
     }
@@ -257,7 +252,6 @@ no_parameters_read {σ} {start} {new} none other define = record {
   faults = λ p s. header_past σ start p other s ∙ define.faults (m.defined p [] ++ s);
   text = define.words;
   scope = define.keeps.scope ∙ none;
-  loose = define.keeps.loose;
   bytes = define.bytes;
   on = define.on;
 }
@@ -272,7 +266,6 @@ parameters_read {σ} {start} {now} {closed} {new} r other close define = record 
   text = r.text
       ∙ ap (λ ws. mark k.LeftParen ∷ word k.Variable r.first ∷ more_parameters_words r.more ws) (close.words ∙ ap (λ ws. mark k.RightParen ∷ ws) define.words);
   scope = define.keeps.scope ∙ close.keeps.scope ∙ r.scope;
-  loose = define.keeps.loose ∙ close.keeps.loose ∙ r.loose;
   bytes = define.bytes ∙ close.bytes ∙ r.bytes;
   on = omega (arith, r.on, close.on, define.on);
 }
@@ -284,7 +277,7 @@ alone : (P : List Text → Type 0) (names : List Text) → ((more : List Text) �
 alone P names h = subst P (append-nil names) (h [])
 
 abbrev pub ReadFormula : Signature → Input → Input → Formula → Type 0
-ReadFormula σ old new f = IsRead formula_words variables_in is_bound (IsOperand 1) σ old new f
+ReadFormula σ old new f = IsRead formula_words variables_in (IsOperand 1) σ old new f
 
 module _ {σ : Signature} {begun mid : Input} {p : Formula} (r : ReadFormula σ begun mid p) where
   pub named : (xs names : List Text) → begun.scope.names ≡ xs → names ≡ mid.scope.names → names ≡ first_occurrences xs (variables_in r.written)
@@ -293,14 +286,14 @@ module _ {σ : Signature} {begun mid : Input} {p : Formula} (r : ReadFormula σ 
   pub is_operand : (names : List Text) → names ≡ mid.scope.names → IsOperand 1 σ names r.written p
   is_operand names same = subst (λ l. IsOperand 1 σ l r.written p) (sym same) (alone (λ l. IsOperand 1 σ l r.written p) mid.scope.names r.is)
 
-pub question_read : {start begun mid behind new : Input} (before after : File) {p : Formula} {built : Bool} {s : Statement} → starts k.Solve (left_of start) ≡ true → Takes None start begun
-    → begun.joints ≡ 0 → begun.scope ≡ record { names = []; bound = [] } → begun.loose ≡ false
+pub question_read : {start begun mid behind new : Input} (before after : File) {p : Formula} {s : Statement} → starts k.Solve (left_of start) ≡ true → Takes None start begun
+    → begun.joints ≡ 0 → begun.scope ≡ record { names = []; bound = [] }
     → ((s : Stack) → fault_of before.signature begun (m.operand 1 m.open_place ∷ s) ≡ fault_of before.signature mid s) → ReadFormula before.signature begun mid p
     → TakesWord (m.plain k.Stop) (mark k.Stop) before.signature mid behind
     → ((s : Stack) → fault_of before.signature behind s ≡ fault_of before.signature new s) → words_left new ≡ words_left behind → new.bytes ≡ behind.bytes → behind.at ≤ new.at
     → s.names ≡ behind.scope.names → s.body ≡ p → after.signature ≡ before.signature → after.preds ≡ before.preds → after.solves ≡ before.solves ++ s ∷ []
-    → built ≡ true → ReadsStatement start new before after built
-question_read {start} {begun} {mid} {behind} {new} before after {p} {built} {s} next takes joints none tight formula r stop renamed same bytes on names body signature preds solves asked = record {
+    → ReadsStatement start new before after
+question_read {start} {begun} {mid} {behind} {new} before after {p} {s} next takes joints none formula r stop renamed same bytes on names body signature preds solves = record {
   written = record { first = mark k.Solve; said = question r.written };
   faults = λ u.
       took_in k.Solve next takes before.signature before.signature (m.statements files) m.begins
@@ -316,7 +309,6 @@ question_read {start} {begun} {mid} {behind} {new} before after {p} {built} {s} 
     subst (λ σ. Makes whole σ before.preds (before.solves ++ s ∷ []) more) signature (subst (λ l. Makes whole after.signature l (before.solves ++ s ∷ []) more) preds
         (subst (λ l. Makes whole after.signature after.preds l more) solves m)),
   );
-  is_built = (λ b. tt, λ u. asked);
   bytes = bytes ∙ stop.bytes ∙ r.bytes ∙ takes.bytes;
   on = omega (arith, takes.on, r.on, stop.on, on);
 }
@@ -330,14 +322,14 @@ question_read {start} {begun} {mid} {behind} {new} before after {p} {built} {s} 
 pub predicate_read : {start begun named_at listed mid behind new : Input} (before after : File) {p : Formula} {pred : Pred} {wrong : Option FaultKind}
     → starts k.Pred (left_of start) ≡ true → Takes None start begun → begun.joints ≡ 0
     → (next : starts k.Name (left_of begun) ≡ true) → Takes wrong begun named_at → wrong ≡ check (environment before.signature begun.joints) (declares_predicate (text_ahead begun))
-    → named_at.joints ≡ begun.joints → (l : ReadsParameters before.signature named_at listed) → listed.loose ≡ false
+    → named_at.joints ≡ begun.joints → (l : ReadsParameters before.signature named_at listed)
     → ((s : Stack) → fault_of before.signature listed (m.operand 1 (m.closed_place l.parameters) ∷ s) ≡ fault_of before.signature mid s) → ReadFormula before.signature listed mid p
     → (next_2 : starts k.Stop (left_of mid) ≡ true) → Takes None mid behind → behind.joints ≡ mid.joints
     → ((s : Stack) → fault_of after.signature behind s ≡ fault_of after.signature new s) → words_left new ≡ words_left behind → new.bytes ≡ behind.bytes → behind.at ≤ new.at
     → pred.place ≡ length before.signature → pred.params ≡ length l.parameters → pred.names ≡ mid.scope.names → pred.body ≡ p
     → after.signature ≡ before.signature ++ entry_of (text_ahead begun) kind.Pred (length l.parameters) ∷ [] → after.preds ≡ before.preds ++ pred ∷ [] → after.solves ≡ before.solves
-    → ReadsStatement start new before after false
-predicate_read {start} {begun} {named_at} {listed} {mid} {behind} {new} before after {p} {pred} first takes joints next takes_2 wrong_is joints_2 l tight formula r next_2 takes_3 joints_3
+    → ReadsStatement start new before after
+predicate_read {start} {begun} {named_at} {listed} {mid} {behind} {new} before after {p} {pred} first takes joints next takes_2 wrong_is joints_2 l formula r next_2 takes_3 joints_3
     renamed same bytes on place params are body signature preds solves = record {
       written = record { first = mark k.Pred; said = predicate name l.parameters r.written };
       faults = λ u.
@@ -363,7 +355,6 @@ predicate_read {start} {begun} {named_at} {listed} {mid} {behind} {new} before a
         subst (λ ρ. Makes whole ρ (before.preds ++ pred ∷ []) before.solves more) signature (subst (λ ps. Makes whole after.signature ps before.solves more) preds
             (subst (λ ss. Makes whole after.signature after.preds ss more) solves m)),
       );
-      is_built = (λ b. cc b, λ b. absurd b);
       bytes = bytes ∙ takes_3.bytes ∙ r.bytes ∙ l.bytes ∙ takes_2.bytes ∙ takes.bytes;
       on = omega (arith, takes.on, takes_2.on, l.on, r.on, takes_3.on, on);
     }

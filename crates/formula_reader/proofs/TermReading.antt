@@ -1,5 +1,5 @@
 -- Terms and their arguments are read by their words and parts.
-use Rattle.std.proofs.Common.{◌≡◌, ℕ, suc, ◌≤◌, Bool, true, false, not, ◌&&◌, ◌||◌, List, [], ◌∷◌, ◌++◌, Option, Some, None, refl, sym, ◌∙◌, ap, subst, append_assoc, arith}
+use Rattle.std.proofs.Common.{◌≡◌, ℕ, suc, ◌≤◌, true, false, List, [], ◌∷◌, ◌++◌, Option, Some, None, refl, sym, ◌∙◌, ap, subst, append_assoc, arith}
 use Rattle.std.proofs.lemmas.List.{append-nil}
 use Rattle.std.specs.Prelude.{Result}
 use Rattle.tree_model.specs.Signatures.{Signature}
@@ -17,8 +17,7 @@ use Rattle.formula_grammar.specs.Written.{Text, Head, further, WrittenTerm, vari
 use Rattle.formula_grammar.specs.Words.{same, mark, head_word, term_words, arguments_words, more_words}
 use Rattle.formula_grammar.specs.Machine as m
 use Rattle.formula_grammar.specs.Machine.{Place, Stack, deeper, row, term_row, heads}
-use Rattle.formula_grammar.specs.Checks.{check, check_all, sooner, index_of, is_among}
-use Rattle.formula_grammar.specs.Names.{has_bound, all_have_bound}
+use Rattle.formula_grammar.specs.Checks.{check, check_all, sooner, index_of}
 use Rattle.formula_grammar.specs.Meaning.{variables_of, all_variables_of, number_in, IsTerm, AreTerms, head_symbol}
 use Rattle.formula_reader.specs.declared.place.Place.{Place as PlaceRead}
 use Rattle.formula_reader.specs.Input.{Input, Scope, added, left_of, words_left, starts, text_ahead, environment, place_of}
@@ -26,27 +25,25 @@ use Rattle.formula_reader.specs.Faults.{fault_of, Takes, Stops, RefusesAt, Keeps
 use Rattle.formula_reader.specs.Reads.{IsRead, AreArguments, IsHeaded, ParsesHeaded, ParsesTerm}
 use Rattle.formula_reader.proofs.Steps.{ahead, words_taken, took, took_in, stopped, complained, taken_through, answers_as, refuses_before, Blocks, not_starting, within}
 use Rattle.formula_reader.proofs.Reading.{same_place, kept_place, enclosed, both, nothing_read}
-use Rattle.formula_reader.proofs.NamesRead.{bound_last}
 
 abbrev pub ReadTerm : Signature → Input → Input → Term → Type 0
-ReadTerm σ old new t = IsRead term_words variables_of has_bound IsTerm σ old new t
+ReadTerm σ old new t = IsRead term_words variables_of IsTerm σ old new t
 
 abbrev pub ReadArguments : Signature → Input → Input → Terms → Type 0
-ReadArguments σ old new ts = IsRead arguments_words all_variables_of all_have_bound AreArguments σ old new ts
+ReadArguments σ old new ts = IsRead arguments_words all_variables_of AreArguments σ old new ts
 
 abbrev pub ReadHeaded : Head → Signature → Input → Input → Term → Type 0
-ReadHeaded h σ old new t = IsRead arguments_words all_variables_of all_have_bound (IsHeaded h) σ old new t
+ReadHeaded h σ old new t = IsRead arguments_words all_variables_of (IsHeaded h) σ old new t
 
 -- ---- one term
 
 pub variable_read : {σ : Signature} {old new : Input} {wrong : Option FaultKind} {n : ℕ} → starts k.Variable (left_of old) ≡ true → Takes wrong old new
-    → new.scope ≡ added old.scope (text_ahead old ∷ []) → new.loose ≡ (old.loose || not (is_among (text_ahead old) old.scope.bound))
+    → new.scope ≡ added old.scope (text_ahead old ∷ [])
     → ((more : List Text) → number_in (new.scope.names ++ more) (text_ahead old) ≡ n) → ReadTerm σ old new (rust.Var n)
-variable_read {old = old} next takes scope loose number = record {
+variable_read {old = old} next takes scope number = record {
   written = variable (text_ahead old);
   text = words_taken k.Variable next takes;
   scope = scope;
-  loose = loose;
   is = λ more. ap rust.Var (sym (number more));
   bytes = takes.bytes;
   on = omega (arith, takes.on);
@@ -58,7 +55,6 @@ made_headed h {ts = ts} r is = record {
   written = r.written;
   text = r.text;
   scope = r.scope;
-  loose = r.loose;
   is = λ more. (ts, is, r.is more);
   bytes = r.bytes;
   on = r.on;
@@ -75,7 +71,7 @@ module _ (kind : TokenKind) (h : Head) (σ : Signature) {old mid : Input} {wrong
 
   pub headed_read : {new : Input} {t : Term} → ReadHeaded h σ mid new t → ReadTerm σ old new t
   headed_read {new} r =
-      enclosed term_words variables_of has_bound IsTerm (λ ts. headed h ts) (λ ts. refl) (λ xs ts. refl) keeps r (record { scope = refl; loose = refl })
+      enclosed term_words variables_of IsTerm (λ ts. headed h ts) (λ ts. refl) keeps r (record { scope = refl })
       (λ names is. is) (words_taken kind next takes ∙ ap (λ w. w ∷ words_left mid) word_is ∙ ap (λ ws. head_word h ∷ ws) r.text)
       takes.bytes refl (omega (arith, takes.on)) (omega arith)
 
@@ -95,14 +91,11 @@ opened_words o ws = mark k.LeftParen ∷ term_words o.first (more_words o.more w
 abbrev opened_variables : Opened → List Text
 opened_variables o = all_variables_of (all_of o)
 
-abbrev opened_bound : List Text → Opened → Bool
-opened_bound xs o = all_have_bound xs (all_of o)
-
 abbrev AreOpened : Signature → List Text → Opened → List Term → Type 0
 AreOpened σ names o ts = AreTerms σ names (all_of o) ts
 
 abbrev pub ReadOpened : Signature → Input → Input → List Term → Type 0
-ReadOpened σ old new ts = IsRead opened_words opened_variables opened_bound AreOpened σ old new ts
+ReadOpened σ old new ts = IsRead opened_words opened_variables AreOpened σ old new ts
 
 -- one more behind
 abbrev push : WrittenTerms → WrittenTerm → WrittenTerms
@@ -117,15 +110,6 @@ push_variables : (ts : WrittenTerms) (t : WrittenTerm) → all_variables_of (pus
 push_variables no_terms t = append-nil (variables_of t)
 push_variables (one_more u ts) t =
     ap (λ xs. variables_of u ++ xs) (push_variables ts t) ∙ sym (append_assoc (variables_of u) (all_variables_of ts) (variables_of t))
-
-and_both : (a b c : Bool) → (a && (b && c)) ≡ ((a && b) && c)
-and_both true b c = refl
-and_both false b c = refl
-
-push_bound : (xs : List Text) (ts : WrittenTerms) (t : WrittenTerm) → all_have_bound xs (push ts t) ≡ (all_have_bound xs ts && has_bound xs t)
-push_bound xs no_terms t = bound_last (has_bound xs t)
-push_bound xs (one_more u ts) t =
-    ap (λ b. has_bound xs u && b) (push_bound xs ts t) ∙ and_both (has_bound xs u) (all_have_bound xs ts) (has_bound xs t)
 
 push_are : (σ : Signature) (names : List Text) (w : WrittenTerm) (t : Term) (ws : WrittenTerms) (ts : List Term) → AreTerms σ names ws ts → IsTerm σ names w t
     → AreTerms σ names (push ws w) (ts ++ t ∷ [])
@@ -143,8 +127,8 @@ module _ {σ : Signature} {start mid now : Input} {t : Term} where
   pub opened_first : KeepsNames start mid → words_left start ≡ mark k.LeftParen ∷ words_left mid → mid.bytes ≡ start.bytes → start.at ≤ mid.at
       → ReadTerm σ mid now t → {ts : List Term} → ts ≡ t ∷ [] → ReadOpened σ start now ts
   opened_first keeps text bytes on r is =
-      enclosed opened_words opened_variables opened_bound AreOpened (λ w. record { first = w; more = no_terms })
-      (λ w. append-nil (variables_of w)) (λ xs w. bound_last (has_bound xs w)) keeps r (record { scope = refl; loose = refl })
+      enclosed opened_words opened_variables AreOpened (λ w. record { first = w; more = no_terms })
+      (λ w. append-nil (variables_of w)) keeps r (record { scope = refl })
       (λ names one. subst (λ us. AreTerms σ names (one_more r.written no_terms) us) (sym is) (one, refl))
       (text ∙ ap (λ ws. mark k.LeftParen ∷ ws) r.text) bytes refl on (omega arith)
 
@@ -152,11 +136,11 @@ module _ {σ : Signature} {start mid now : Input} {t : Term} where
   pub opened_next : {before : List Term} → ReadOpened σ start mid before → {comma : Input} → KeepsNames mid comma → words_left mid ≡ mark k.Comma ∷ words_left comma
       → comma.bytes ≡ mid.bytes → mid.at ≤ comma.at → ReadTerm σ comma now t → {ts : List Term} → ts ≡ before ++ t ∷ [] → ReadOpened σ start now ts
   opened_next {before} far {comma} keeps text bytes on r {ts} is =
-      let one : IsRead comma_words variables_of has_bound IsTerm σ mid now t =
-      enclosed comma_words variables_of has_bound IsTerm (λ w. w) (λ w. refl) (λ xs w. refl) keeps r (record { scope = refl; loose = refl }) (λ names one. one)
+      let one : IsRead comma_words variables_of IsTerm σ mid now t =
+      enclosed comma_words variables_of IsTerm (λ w. w) (λ w. refl) keeps r (record { scope = refl }) (λ names one. one)
       (text ∙ ap (λ ws. mark k.Comma ∷ ws) r.text) bytes refl on (omega arith) in
-      both opened_words opened_variables opened_bound AreOpened (λ o w. record { first = o.first; more = push o.more w })
-      (λ o w. push_variables (all_of o) w) (λ xs o w. push_bound xs (all_of o) w) far one
+      both opened_words opened_variables AreOpened (λ o w. record { first = o.first; more = push o.more w })
+      (λ o w. push_variables (all_of o) w) far one
       (λ names are last. subst (λ us. AreTerms σ names (push (all_of far.written) r.written) us) (sym is) (push_are σ names r.written t (all_of far.written) before are last))
       (far.text ∙ ap (λ ws. opened_words far.written ws) one.text
       ∙ ap (λ ws. mark k.LeftParen ∷ term_words far.written.first ws) (sym (push_words far.written.more r.written (words_left now))))
@@ -165,15 +149,15 @@ module _ {σ : Signature} {start mid now : Input} {t : Term} where
 pub opened_last : {σ : Signature} {start now new : Input} {ts : Terms} → ReadOpened σ start now (list_of ts) → KeepsNames now new → words_left now ≡ mark k.RightParen ∷ words_left new
     → new.bytes ≡ now.bytes → now.at ≤ new.at → ReadArguments σ start new ts
 opened_last {new = new} far keeps text bytes on =
-    enclosed arguments_words all_variables_of all_have_bound AreArguments (λ o. all_of o) (λ o. refl) (λ xs o. refl)
-    (record { scope = refl; loose = refl }) far keeps (λ names are. are) (far.text ∙ ap (λ ws. opened_words far.written ws) text)
+    enclosed arguments_words all_variables_of AreArguments (λ o. all_of o) (λ o. refl)
+    (record { scope = refl }) far keeps (λ names are. are) (far.text ∙ ap (λ ws. opened_words far.written ws) text)
     refl bytes (omega arith) on
 
 -- no arguments stand here
 pub no_arguments_read : {σ : Signature} {old new : Input} {ts : Terms} → list_of ts ≡ [] → KeepsNames old new → words_left old ≡ words_left new → new.bytes ≡ old.bytes → old.at ≤ new.at
     → ReadArguments σ old new ts
 no_arguments_read none keeps text bytes on =
-    nothing_read arguments_words all_variables_of all_have_bound AreArguments no_terms refl (λ xs. refl) keeps (λ names. none) text bytes on
+    nothing_read arguments_words all_variables_of AreArguments no_terms refl keeps (λ names. none) text bytes on
 
 -- ---- the first fault of arguments
 

@@ -53,7 +53,6 @@ at_next kind (token t more) = record { offset = t.from; kind = kind }
 -- nothing is changed of the variables
 pub record KeepsNames (old new : Input) : Type 0 where
   pub scope : new.scope ≡ old.scope
-  pub loose : new.loose ≡ old.loose
 
 -- the next token was taken, with which nothing else was wrong than what was asked
 pub record Takes (wrong : Option FaultKind) (old new : Input) : Type 0 where

@@ -6,7 +6,6 @@ use Rattle.formula_ast.specs.declared.token.Token.{Token}
 use Rattle.formula_ast.specs.declared.token.TokenKind.{TokenKind}
 use Rattle.formula_ast.specs.Tokens.{Stream, end, bad, token, tokens_at, Word}
 use Rattle.formula_grammar.specs.declared.fault.FaultKind.{FaultKind}
-use Rattle.formula_grammar.specs.Begins.{BeginsWith}
 use Rattle.formula_grammar.specs.Written.{Text}
 use Rattle.formula_grammar.specs.Words.{same, word_of}
 use Rattle.formula_grammar.specs.Machine.{Place}
@@ -24,14 +23,13 @@ abbrev pub added : Scope → List Text → Scope
 added scope xs = record { names = first_occurrences scope.names xs; bound = scope.bound }
 
 -- A text that is read up to an offset; what is wrong with the next token, if the grammar allows it; how many `&`, `|` and
--- variables of quantifiers the statement has so far; its variables; and whether one of them stands where nothing binds it.
+-- variables of quantifiers the statement has so far; and its variables.
 pub record Input : Type 0 where
   pub bytes : List ℕ
   pub at : ℕ
   pub pending : Option FaultKind
   pub joints : ℕ
   pub scope : Scope
-  pub loose : Bool
 
 -- the tokens that are still to be read
 abbrev pub left_of : Input → Stream
@@ -45,10 +43,6 @@ words_of bytes (token t more) = word_of bytes t ∷ words_of bytes more
 
 abbrev pub words_left : Input → List Word
 words_left i = words_of i.bytes (left_of i)
-
--- the offset stands behind the first tokens of the text
-abbrev pub IsPlace : List ℕ → ℕ → Type 0
-IsPlace bytes at = (before : List Word) × BeginsWith bytes (tokens_at bytes 0) before (tokens_at bytes at)
 
 -- what is kept of the tokens that are left: the first, whose text is ASCII, if there is one, or the byte that begins none
 abbrev pub IsNext : List ℕ → ℕ → Result (Option Token) ℕ → Type 0

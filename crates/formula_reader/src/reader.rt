@@ -7,7 +7,7 @@ ghost use Rattle.formula_ast.specs.declared.token.Token.{Token};
 ghost use Rattle.formula_grammar.specs.Words.{has_text, mark};
 ghost use Rattle.formula_grammar.specs.Checks as g;
 ghost use Rattle.formula_grammar.specs.Machine as m;
-ghost use Rattle.formula_reader.specs.Input.{IsPlace, left_of, starts, text_ahead, environment, place_of};
+ghost use Rattle.formula_reader.specs.Input.{left_of, starts, text_ahead, environment, place_of};
 ghost use Rattle.formula_reader.specs.Faults.{fault_of, Refuses, RefusesAt, at_next, Takes, TakesWord, KeepsNames, Stops};
 
 use crate::ReadError;
@@ -33,20 +33,19 @@ pub(crate) struct Reader<'a> {
     pending: Option<FaultKind>,
     // How many `&`, `|` and variables of quantifiers the statement has so far.
     pub(crate) joints: usize,
-    // The statement's variables so far, and whether one of them stands where nothing binds it.
+    // The statement's variables so far.
     pub(crate) scope: Variables,
-    pub(crate) loose: bool,
 }
 
 impl<'a> Model for Reader<'a> {
     ghost use Rattle.std.specs.Prelude.{◌≤◌, length};
-    ghost use Rattle.formula_reader.specs.Input.{Input, IsPlace, IsNext};
+    ghost use Rattle.formula_reader.specs.Input.{Input, IsNext};
 
     ghost Value = { Input };
 
-    ghost view = { λ r. record { bytes = r.bytes.now; at = r.at; pending = r.pending; joints = r.joints; scope = r.scope; loose = r.loose } };
+    ghost view = { λ r. record { bytes = r.bytes.now; at = r.at; pending = r.pending; joints = r.joints; scope = r.scope } };
 
-    ghost invariant = { λ r. (r.joints ≤ 1000) × IsPlace r.bytes.now r.at × IsNext r.bytes.now r.at r.next };
+    ghost invariant = { λ r. (r.joints ≤ 1000) × IsNext r.bytes.now r.at r.next };
 }
 
 // The text of a token.
@@ -63,7 +62,7 @@ fn text_of<'a>(bytes: &'a [u8], token: Token) -> &'a str
 
 impl<'a> Reader<'a> {
     pub(crate) fn new(alloc: Global, bytes: &'a [u8]) -> Reader<'a>
-        ensures { result ≡ record { bytes = bytes.now; at = 0; pending = None; joints = 0; scope = record { names = []; bound = [] }; loose = false } }
+        ensures { result ≡ record { bytes = bytes.now; at = 0; pending = None; joints = 0; scope = record { names = []; bound = [] } } }
     {
         Reader {
             bytes,
@@ -72,7 +71,6 @@ impl<'a> Reader<'a> {
             pending: None,
             joints: 0,
             scope: Variables::new(alloc),
-            loose: false,
         }
     }
 

@@ -51,13 +51,11 @@ impl<'a> Reader<'a> {
         ensures takes { OnOk result (Takes None self.old self.new) }
         ensures joints { OnOk result (self.new.joints ≡ 0) }
         ensures scope { OnOk result (self.new.scope ≡ record { names = []; bound = [] }) }
-        ensures loose { OnOk result (self.new.loose ≡ false) }
         ensures stops { IfErr result (λ error. Stops None self.old error) }
     {
         self.take(kind, None)?;
         self.joints = 0;
         self.scope = Variables::new(alloc);
-        self.loose = false;
         Ok(())
     }
 
@@ -87,7 +85,7 @@ impl<'a> Reader<'a> {
     // Declarations of symbols.
     fn symbols(&mut self, file: &mut File) -> Result<(), ReadError>
         requires { IsTrue (starts k.Symbol (left_of self.old)) }
-        ensures { MatchResult result (λ _. ReadsStatement self.old self.new file.old file.new true) (λ e. RefusesAt (m.statements files) file.old.signature self.old e) }
+        ensures { ParsesStatement result self.old self.new file.old file.new }
     {
         self.take(TokenKind::Symbol, None)?;
         self.declaration(&mut file.signature)?;
@@ -138,7 +136,7 @@ impl<'a> Reader<'a> {
     // A predicate, which is declared behind its body.
     fn predicate(&mut self, alloc: Global, file: &mut File) -> Result<(), ReadError>
         requires { IsTrue (starts k.Pred (left_of self.old)) }
-        ensures { MatchResult result (λ _. ReadsStatement self.old self.new file.old file.new false) (λ e. RefusesAt (m.statements files) file.old.signature self.old e) }
+        ensures { ParsesStatement result self.old self.new file.old file.new }
     {
         self.begin(alloc, TokenKind::Pred)?;
         if !self.sees(TokenKind::Name) {
@@ -169,8 +167,8 @@ impl<'a> Reader<'a> {
         Ok(())
     }
 
-    // A question, and whether it is answered by now.
-    fn question(&mut self, alloc: Global, file: &mut File) -> Result<bool, ReadError>
+    // A question.
+    fn question(&mut self, alloc: Global, file: &mut File) -> Result<(), ReadError>
         requires { IsTrue (starts k.Solve (left_of self.old)) }
         ensures { ParsesStatement result self.old self.new file.old file.new }
     {
@@ -183,21 +181,19 @@ impl<'a> Reader<'a> {
         self.expect(TokenKind::Stop)?;
         let names = mem::replace(&mut self.scope, Variables::new(alloc)).into_names(alloc)?;
         file.solves.push(Statement { names, body })?;
-        Ok(true)
+        Ok(())
     }
 
-    // A statement, and whether it is answered by now.
-    pub(crate) fn statement(&mut self, alloc: Global, file: &mut File) -> Result<bool, ReadError>
+    // A statement.
+    pub(crate) fn statement(&mut self, alloc: Global, file: &mut File) -> Result<(), ReadError>
         requires { (t : Token) × (more : Stream) × (left_of self.old ≡ token t more) }
-        ensures { MatchResult result (λ built. ReadsStatement self.old self.new file.old file.new built)
+        ensures { MatchResult result (λ _. ReadsStatement self.old self.new file.old file.new)
             (λ e. Refuses e (fault_of file.old.signature self.old (m.statements files ∷ []))) }
     {
         if self.sees(TokenKind::Symbol) {
-            self.symbols(file)?;
-            Ok(true)
+            self.symbols(file)
         } else if self.sees(TokenKind::Pred) {
-            self.predicate(alloc, file)?;
-            Ok(false)
+            self.predicate(alloc, file)
         } else if self.sees(TokenKind::Solve) {
             self.question(alloc, file)
         } else {

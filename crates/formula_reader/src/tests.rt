@@ -1,5 +1,5 @@
 use super::*;
-use formula_ast::{File, Formula, Statement, Term, Terms};
+use formula_ast::{File, Formula, Names, Term, Terms};
 use signature::{Kind, Signature};
 use std::alloc::{AllocError, Global};
 use std::fmt::Write;
@@ -99,25 +99,37 @@ fn write_formula(shown: &mut String, formula: &Formula) -> Result<(), AllocError
     }
 }
 
-// The names of a statement's variables, and its formula.
-fn write_statement(shown: &mut String, statement: &Statement) -> Result<(), AllocError> {
+// The names of the variables, and the formula.
+fn write_named(shown: &mut String, names: &Names, formula: &Formula) -> Result<(), AllocError> {
     write!(shown, "[")?;
-    for name in statement.names.as_slice() {
+    for name in names.as_slice() {
         write!(shown, "{} ", name.as_str())?;
     }
     write!(shown, "] ")?;
-    write_formula(shown, &statement.body)
+    write_formula(shown, formula)
 }
 
-// The names that a file declares, and its questions.
+// A predicate's place, the number of its parameters, and its body.
+fn write_predicate(shown: &mut String, file: &File, i: usize) -> Result<(), AllocError> {
+    let pred = file.preds.get(i);
+    write!(shown, "{}/{} ", pred.place, pred.params)?;
+    write_named(shown, &pred.names, &pred.body)?;
+    write!(shown, ". ")
+}
+
+// The names that a file declares, its predicates, and its questions.
 fn write_file(shown: &mut String, file: &File) -> Result<(), AllocError> {
     for place in 0..file.signature.len() {
         let name = file.signature.name(place);
         let (kind, arity) = file.signature.entry(place);
         write!(shown, "{kind:?} {name}/{arity}. ")?;
     }
+    for i in 0..file.preds.len() {
+        write_predicate(shown, file, i)?;
+    }
     for i in 0..file.solves.len() {
-        write_statement(shown, file.solves.get(i))?;
+        let statement = file.solves.get(i);
+        write_named(shown, &statement.names, &statement.body)?;
     }
     Ok(())
 }
@@ -126,7 +138,7 @@ fn write_file(shown: &mut String, file: &File) -> Result<(), AllocError> {
 fn read_as(alloc: Global, signature: &Signature, text: &str) -> Result<String, AllocError> {
     let mut shown = String::new(alloc);
     match read_formula(alloc, signature, text.as_bytes()) {
-        Ok(statement) => write_statement(&mut shown, &statement)?,
+        Ok(statement) => write_named(&mut shown, &statement.names, &statement.body)?,
         Err(error) => write!(shown, "{error}")?,
     }
     Ok(shown)
@@ -262,6 +274,24 @@ fn files_of_questions_are_read(rt: HostRuntime) -> Result<(), Fail> {
     Ok(())
 }
 
+// What files are read as, and behind the sign `<<` their texts.
+const PREDICATES: &str = "\
+Symbol a/0. Pred p/1. 1/1 [X ] 0 = #0.  << symbol a/0. pred p(X) := X = a.
+Pred p/0. 0/0 [X ] exists 0 exists 0 0 = 0.  << pred p := exists X: exists X: X = X.
+Pred p/0. 0/0 [] true. [] true[] #0[X ] 0 = 0 << solve true. pred p := true. solve p. solve X = X.
+Pred m/2. 0/2 [X Y ] true. [X ] win 0 1000 0 << pred m(X, Y) := true. solve win(m, 0001000, X).
+Pred p/2. Pred q/2. 0/2 [X Y Z ] exists 2 1 = 2. 1/2 [Y X ] (#0(1, 0) & win 0 1 1).  << pred p(X, Y) := exists Z: Y = Z. pred q(Y, X) := p(X, Y) & win(p, 1, X).";
+
+#[test]
+fn predicates_are_read(rt: HostRuntime) -> Result<(), Fail> {
+    for line in PREDICATES.lines() {
+        let (wanted, text) = line.split_once(" << ").ok_or("a row has two parts")?;
+        let read = file_read_as(rt.alloc(), text)?;
+        assert_eq!(rt; read.as_str(), wanted, "{text}");
+    }
+    Ok(())
+}
+
 // The faults of texts that are no files, and behind the sign `<<` the texts.
 const REFUSED_FILES: &str = "\
 byte 0: Byte << #
@@ -287,7 +317,6 @@ byte 17: Twice << symbol p/0. pred p := true.
 byte 21: Twice << pred p := true. pred p := true.
 byte 10: Unknown << pred p := p.
 byte 31: Loose << pred p(X) := exists Y: Y = X & Y = X.
-byte 0: NotBuilt << pred p := exists X: exists X: X = X.
 byte 19: Arity << symbol a/0. solve a(X) = a.
 byte 21: Arity << symbol f/1. solve f(X, Y) = X.
 byte 24: Syntax << symbol f/1. solve X = f() .
@@ -296,14 +325,9 @@ byte 44: Sort << pred m(X, Y) := true. symbol f/1. solve win(f, 1, X).
 byte 29: Arity << pred m(X) := true. solve win(m, 1, X).
 byte 10: Unknown << solve win(m, 1, X).
 byte 35: Limit << pred m(X, Y) := true. solve win(m, 1001, X).
-byte 0: NotBuilt << pred m(X, Y) := true. solve win(m, 0001000, X).
 byte 6: Limit << solve $18446744073709551616 = X.
 byte 24: Limit << solve $0(X,X,X,X,X,X,X,X,X) = X.
-byte 12: NotBuilt << symbol a/0. pred p(X) := X = a.
 byte 39: Ended << solve exists X: X = X. solve true. pred
-byte 0: NotBuilt << pred p := true. solve p. solve X = X.
-byte 25: NotBuilt << solve true. solve X = X. pred p := true.
-byte 23: NotBuilt << solve forall X: X = X. pred p := true. solve X = X.
 byte 12: Byte << solve true. #
 byte 18: Ended << solve true. symbol
 byte 15: Ended << solve X = X % c
@@ -436,9 +460,9 @@ fn the_greatest_index_is_read(rt: HostRuntime) -> Result<(), Fail> {
 fn errors_are_printed(rt: HostRuntime) -> Result<(), Fail> {
     let error = ReadError::Refused(Fault {
         offset: 12,
-        kind: FaultKind::NotBuilt,
+        kind: FaultKind::Loose,
     });
     let printed = format!(in rt.alloc(); "{error}, {}", ReadError::NoMemory)?;
-    assert_eq!(rt; printed.as_str(), "byte 12: NotBuilt, out of memory");
+    assert_eq!(rt; printed.as_str(), "byte 12: Loose, out of memory");
     Ok(())
 }

@@ -1,11 +1,11 @@
 // Reads words that are checked: variables, names and numbers.
-ghost use Rattle.std.specs.Prelude.{◌≡◌, ◌≤◌, ℕ, List, [], ◌∷◌, ◌++◌, ◌||◌, not, suc, IsTrue, IfOk, IfErr, OnOk, MatchResult};
+ghost use Rattle.std.specs.Prelude.{◌≡◌, ◌≤◌, ℕ, List, [], ◌∷◌, ◌++◌, suc, IsTrue, IfOk, IfErr, OnOk, MatchResult};
 ghost use Rattle.formula_ast.specs.declared.token.TokenKind.TheVariants as k;
 ghost use Rattle.tree_model.specs.Signatures.{Signature as Entries};
 ghost use Rattle.formula_grammar.specs.Written.{Text, further};
 ghost use Rattle.formula_grammar.specs.Words as w;
 ghost use Rattle.formula_grammar.specs.Machine as m;
-ghost use Rattle.formula_grammar.specs.Checks.{Environment, check, is_among, value_of as value, index_of as index};
+ghost use Rattle.formula_grammar.specs.Checks.{Environment, check, value_of as value, index_of as index};
 ghost use Rattle.formula_grammar.specs.Meaning as meaning;
 ghost use Rattle.formula_grammar.specs.Meaning.{first_occurrences, number_in, head_symbol};
 ghost use Rattle.formula_reader.specs.Input.{added, left_of, starts, text_ahead, environment, place_of};
@@ -30,7 +30,6 @@ impl<'a> Reader<'a> {
         ensures takes { (E : Environment) → OnOk result (Takes (check E (m.stands (text_ahead self.old) (place_of self.old place))) self.old self.new) }
         ensures joints { OnOk result (self.new.joints ≡ self.old.joints) }
         ensures scope { OnOk result (self.new.scope ≡ added self.old.scope (text_ahead self.old ∷ [])) }
-        ensures loose { OnOk result (self.new.loose ≡ (self.old.loose || not (is_among (text_ahead self.old) self.old.scope.bound))) }
         ensures number { IfOk result (λ n. (more : List Text) → number_in (self.new.scope.names ++ more) (text_ahead self.old) ≡ n) }
         ensures stops { (E : Environment) → IfErr result (λ error. Stops (check E (m.stands (text_ahead self.old) (place_of self.old place))) self.old error) }
     {
@@ -40,11 +39,7 @@ impl<'a> Reader<'a> {
             TokenKind::Variable,
             checks::stands(name, place.closed, bound),
         )?;
-        let number = self.scope.number(alloc, name)?;
-        if !bound {
-            self.loose = true;
-        }
-        Ok(number)
+        self.scope.number(alloc, name)
     }
 
     // Takes a variable of a quantifier's list, and binds it.
@@ -53,7 +48,6 @@ impl<'a> Reader<'a> {
         ensures takes { (σ : Entries) → OnOk result (Takes (check (environment σ self.old.joints) (m.binds (text_ahead self.old))) self.old self.new) }
         ensures joints { OnOk result (self.new.joints ≡ suc self.old.joints) }
         ensures scope { OnOk result (self.new.scope ≡ record { names = first_occurrences self.old.scope.names (text_ahead self.old ∷ []); bound = self.old.scope.bound ++ text_ahead self.old ∷ [] }) }
-        ensures loose { OnOk result (self.new.loose ≡ self.old.loose) }
         ensures stops { (σ : Entries) → IfErr result (λ error. Stops (check (environment σ self.old.joints) (m.binds (text_ahead self.old))) self.old error) }
     {
         let name = self.text(TokenKind::Variable);

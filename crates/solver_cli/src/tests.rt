@@ -5,6 +5,7 @@ mod fronts;
 mod inputs;
 mod limits;
 mod open;
+mod predicates;
 
 use crate::{Status, report, run};
 use io_edge::{MemorySink, MemorySource};
@@ -53,7 +54,7 @@ fn expect_ample(
     line: &[u8],
     shows: &str,
 ) -> Result<(), Fail> {
-    let mut out = MemorySink::new(alloc, 100)?;
+    let mut out = MemorySink::new(alloc, 10_000)?;
     expect_run(rt, alloc, source, &mut out, status, written, line, shows)
 }
 

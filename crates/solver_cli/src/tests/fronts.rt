@@ -36,7 +36,7 @@ const OUTCOMES: &str = "\
 123 ended
 127 fault 121 unknown
 134 ended
-136 fault 98 notbuilt
+136 1 false; 2 true
 140 fault 135 syntax
 143 ended
 147 fault 141 unknown
@@ -45,7 +45,7 @@ const OUTCOMES: &str = "\
 162 ended
 165 fault 161 unknown
 167 ended
-168 fault 98 notbuilt";
+168 1 false; 2 true; 3 false";
 
 fn expect_front(rt: &impl Abort, alloc: Global, front: &[u8], outcome: &str) -> Result<(), Fail> {
     match outcome {

@@ -60,7 +60,7 @@ const JOINTS: &str = "\
 1 false << 1*solve false#1000* | false#1*.
 fault 7011 limit << 1*solve true#1001* & true#1*.
 // parameters are none of them
-fault 0 notbuilt << 1*pred p(X, Y) := true#1000* & true#1*.
+1 true << 1*pred p(X, Y) := true#1000* & true#1*. solve p(X, X).
 fault 7011 limit << 1*solve true#1001* | true#1*.
 1 true << 1*symbol f/1. solve exists X: (X = f(X)#999* & X = f(X)#1*).
 fault 11027 limit << 1*symbol f/1. solve exists X: (X = f(X)#1000* & X = f(X)#1*).
@@ -149,14 +149,8 @@ fn one_symbol_more(rt: HostRuntime) -> Result<(), Fail> {
 #[test]
 fn predicates_of_one_file(rt: HostRuntime) -> Result<(), Fail> {
     let alloc = rt.alloc();
-    let most = counted(alloc, "", "pred p", " := true. ", "", 1024)?;
-    expect_outcome(
-        &rt,
-        alloc,
-        most.as_bytes(),
-        "fault 0 notbuilt",
-        "1,024 predicates",
-    )?;
+    let most = counted(alloc, "", "pred p", " := true. ", "solve p1023.", 1024)?;
+    expect_outcome(&rt, alloc, most.as_bytes(), "1 true", "1,024 predicates")?;
     let more = counted(alloc, "", "pred p", " := true. ", "", 1025)?;
     expect_outcome(
         &rt,

@@ -299,7 +299,7 @@ quantified-returns-in_err-bind t c =
 pub quantified-more-init : goal.quantified-more-init
 quantified-more-init t c =
     let bound = c.in_ok-bind.ensures in
-    record { binds = first_bound c.args.signature.now c.args.place c.args.self.now c.bind.new.self (sym c.if-not-sees.ensures) bound.takes bound.joints bound.scope bound.loose }
+    record { binds = first_bound c.args.signature.now c.args.place c.args.self.now c.bind.new.self (sym c.if-not-sees.ensures) bound.takes bound.joints bound.scope }
 
 pub quantified-returns-in_err-bind-2 : goal.quantified-returns-in_err-bind-2
 quantified-returns-in_err-bind-2 t c =
@@ -313,7 +313,7 @@ pub quantified-more-preserved : goal.quantified-more-preserved
 quantified-more-preserved t c =
     let bound = c.in_ok-bind-2.ensures in
     record {
-      binds = next_bound c.args.signature.now c.args.place c.more.self c.bind-in-more.new.self (sym c.more-test.ensures) bound.takes bound.joints bound.scope c.more.invariant.binds bound.loose;
+      binds = next_bound c.args.signature.now c.args.place c.more.self c.bind-in-more.new.self (sym c.more-test.ensures) bound.takes bound.joints bound.scope c.more.invariant.binds;
     }
 
 pub quantified-returns-then-not-sees-2 : goal.quantified-returns-then-not-sees-2
@@ -367,6 +367,6 @@ quantified-returns t c =
           (c.depth-outer.ensures ∙ ap (λ (i : Input). length i.scope.bound) c.self.view_is)
           (λ more. c.bound_behind.ensures more ∙ ap (λ (i : Input). map (number_in (i.scope.names ++ more)) (drop outer i.scope.bound)) c.self-2.view_is)
           c.in_ok-formula.ensures.formula _
-          (ap (λ (scope : Scope). record { bytes = last.bytes.now; at = last.at; pending = last.pending; joints = last.joints; scope = scope; loose = last.loose }) c.release.ensures
+          (ap (λ (scope : Scope). record { bytes = last.bytes.now; at = last.at; pending = last.pending; joints = last.joints; scope = scope }) c.release.ensures
           ∙ ap (λ (i : Input). record i { scope = record { names = i.scope.names; bound = take outer i.scope.bound } }) c.self-2.view_is);
     }

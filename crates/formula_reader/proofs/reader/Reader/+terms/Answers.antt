@@ -35,7 +35,7 @@ term-returns-in_ok-variable t c =
     record {
       faults = took_in k.Variable next takes σ σ (m.term (place_of old c.args.place)) (m.stands (text_ahead old) (place_of old c.args.place)) [] refl refl
           (ap (environment σ) (sym read.joints));
-      read = variable_read next takes read.scope read.loose read.number;
+      read = variable_read next takes read.scope read.number;
     }
 
 pub term-returns-in_err-take : goal.term-returns-in_err-take

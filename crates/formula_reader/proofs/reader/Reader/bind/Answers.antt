@@ -27,11 +27,11 @@ invariant_of-self c =
     let same : c.self-2.inside.joints ≡ c.self.inside.joints =
     ap (λ (i : Input). i.joints) c.self-2.view_is ∙ c.in_ok-take.ensures.joints ∙ sym (ap (λ (i : Input). i.joints) c.self.view_is) in
     let rise = may_rise_behind _ _ (is_long c.text-name.result.now) c.self.inside.joints 1000 (c.binds-wrong.ensures []) c.in_ok-take.ensures.takes.right in
-    (omega (arith, rise, same), c.self-2.invariant.1, c.self-2.invariant.2)
+    (omega (arith, rise, same), c.self-2.invariant.1)
 
 pub invariant_of-self-2 : goal.invariant_of-self-2
 invariant_of-self-2 c =
     let same : c.self-2.inside.joints ≡ c.self.inside.joints =
     ap (λ (i : Input). i.joints) c.self-2.view_is ∙ c.in_ok-take.ensures.joints ∙ sym (ap (λ (i : Input). i.joints) c.self.view_is) in
     let rise = may_rise_behind _ _ (is_long c.text-name.result.now) c.self.inside.joints 1000 (c.binds-wrong.ensures []) c.in_ok-take.ensures.takes.right in
-    (omega (arith, rise, same), c.self-2.invariant.1, c.self-2.invariant.2)
+    (omega (arith, rise, same), c.self-2.invariant.1)

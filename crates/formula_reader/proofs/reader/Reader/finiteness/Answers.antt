@@ -64,7 +64,7 @@ returns c =
       faults = λ s. both_taken k.Finite σ old c.take.new.self c.args.place c.requires.starts took.takes took.keeps took.joints rest refl paren s
           ∙ ap (λ p. fault_of σ c.opening.new.self (m.term p ∷ m.plain k.RightParen ∷ s)) (sym (inner_place took.keeps paren))
           ∙ c.in_ok-term.ensures.faults (m.plain k.RightParen ∷ s) ∙ last.faults s;
-      read = wrapped_read (λ w. finite w) (λ w. refl) (λ xs w. refl) (keeps_both took.keeps paren.word_is.keeps) (paren.word_is.bytes ∙ took.takes.bytes)
+      read = wrapped_read (λ w. finite w) (λ w. refl) (keeps_both took.keeps paren.word_is.keeps) (paren.word_is.bytes ∙ took.takes.bytes)
           (omega (arith, took.takes.on, paren.word_is.on)) c.in_ok-term.ensures.read last
           (λ names w one. record { strong = omega arith; levelled = tt; stands = (c.in_ok-term.term, finite_form c.in_ok-term.term, one) })
           (λ w text. words_taken k.Finite c.requires.starts took.takes ∙ ap (λ ws. mark k.Finite ∷ ws) (paren.word_is.words ∙ ap (λ ws. mark k.LeftParen ∷ ws) text));

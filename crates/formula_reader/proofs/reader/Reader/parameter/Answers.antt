@@ -43,4 +43,3 @@ returns c = λ σ.
     ∙ ap (λ (scope : Scope). record { names = first_occurrences scope.names (name ∷ []); bound = scope.bound ++ name ∷ [] }) took.keeps.scope
     ∙ ap (λ f. record { names = first_occurrences old.scope.names (f ∷ []); bound = old.scope.bound ++ f ∷ [] }) c.text-name.ensures
     ∙ ap (λ names. record { names = names; bound = old.scope.bound ++ text_ahead old ∷ [] }) (new_behind old.scope.names old.scope.bound (text_ahead old) c.requires absent))
-    (ap (λ (i : Input). i.loose) c.self-2.view_is ∙ took.keeps.loose)

@@ -114,7 +114,7 @@ returns c =
     c.depth-params.ensures ∙ ap (λ (i : Input). length i.scope.bound) c.self.view_is ∙ ap (λ (scope : Scope). length scope.bound) listed.scope in
     let at = ap (λ (i : Input). i.at) c.self-2.view_is in
     predicate_read c.args.file.now _ c.requires begin.takes begin.joints (sym c.if-not-sees.ensures) c.in_ok-take.ensures.takes (c.declares_predicate-wrong.ensures begun.joints ∙ ap (λ f. check (environment σ begun.joints) (m.declares_predicate f)) c.text-name.ensures)
-    c.in_ok-take.ensures.joints listed (listed.loose ∙ c.in_ok-take.ensures.keeps.loose ∙ begin.loose)
+    c.in_ok-take.ensures.joints listed
     (λ s. ap (λ (scope : Scope). fault_of σ c.parameters.new.self (m.operand 1 (record { depth = 0; bound = scope.bound; closed = true }) ∷ s)) (sym listed.scope) ∙ c.in_ok-body.ensures.faults s)
     c.in_ok-body.ensures.read (sym c.if-not-sees-2.ensures) c.in_ok-take-2.ensures.takes c.in_ok-take-2.ensures.joints
     (λ s. ap (λ (i : Input). fault_of c.declare.new.signature i s) (sym c.self-2.view_is)) (ap (λ (i : Input). words_left i) c.self-2.view_is)

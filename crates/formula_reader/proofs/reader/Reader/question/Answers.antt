@@ -34,9 +34,9 @@ returns c =
     let σ = c.args.file.now.signature in
     let begin = c.in_ok-begin.ensures in
     let at = ap (λ (i : Input). i.at) c.self.view_is in
-    question_read c.args.file.now _ c.requires begin.takes begin.joints begin.scope begin.loose
+    question_read c.args.file.now _ c.requires begin.takes begin.joints begin.scope
     (λ s. ap (λ (scope : Scope). fault_of σ c.begin.new.self (m.operand 1 (record { depth = 0; bound = scope.bound; closed = false }) ∷ s)) (sym begin.scope) ∙ c.in_ok-body.ensures.faults s)
     c.in_ok-body.ensures.read (c.in_ok-expect.ensures σ) (λ s. ap (λ (i : Input). fault_of σ i s) (sym c.self.view_is)) (ap (λ (i : Input). words_left i) c.self.view_is)
     (ap (λ (i : Input). i.bytes) c.self.view_is) (omega (arith, at))
     (c.in_ok-names.ensures.names ∙ ap (λ (scope : Scope). scope.names) c.replace.ensures.value ∙ ap (λ (i : Input). i.scope.names) c.self.view_is) refl refl refl
-    c.in_ok-push.ensures.ok refl
+    c.in_ok-push.ensures.ok

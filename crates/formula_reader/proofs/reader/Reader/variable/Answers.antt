@@ -14,16 +14,8 @@ returns-in_err-take-clause-stops c = λ E.
     exits (λ e. Stops (check E (m.stands (text_ahead old) (place_of old c.args.place))) old e) _ _ c.from_residual.ensures.1
     (subst (λ w. Stops w old c.in_err-take.field-0.0) wrong c.in_err-take.ensures.stops)
 
-pub returns-then-not-bound-clause-takes : goal.returns-then-not-bound-clause-takes
-returns-then-not-bound-clause-takes c = λ E.
-    let old = c.args.self.now in
-    let bound = c.is_bound-bound.ensures ∙ ap (λ (i : Input). is_among c.text-name.result.now i.scope.bound) c.self.view_is in
-    let wrong = stands_is old c.args.place c.text-name.result.now c.is_bound-bound.result c.stands.result c.stands.ensures bound c.text-name.ensures E in
-    taken_on (subst (λ w. Takes w old c.take.new.self) wrong c.in_ok-take.ensures.takes) _ (ap (λ (i : Input). i.bytes) c.self-2.view_is) (ap (λ (i : Input). i.at) c.self-2.view_is)
-    (ap (λ (i : Input). i.pending) c.self-2.view_is)
-
-pub returns-else-not-bound-clause-takes : goal.returns-else-not-bound-clause-takes
-returns-else-not-bound-clause-takes c = λ E.
+pub returns-clause-takes : goal.returns-clause-takes
+returns-clause-takes c = λ E.
     let old = c.args.self.now in
     let bound = c.is_bound-bound.ensures ∙ ap (λ (i : Input). is_among c.text-name.result.now i.scope.bound) c.self.view_is in
     let wrong = stands_is old c.args.place c.text-name.result.now c.is_bound-bound.result c.stands.result c.stands.ensures bound c.text-name.ensures E in

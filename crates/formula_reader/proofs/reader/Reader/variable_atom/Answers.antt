@@ -32,5 +32,5 @@ returns c =
     record {
       faults = λ s. variable_begins c.args.signature.now c.args.place old c.variable.new.self c.requires.starts takes refl read.joints (ap (λ scope. scope.bound) read.scope) s
           ∙ c.in_ok-comparer.ensures.faults s;
-      read = compared_read (variable_read c.requires.starts takes read.scope read.loose read.number) c.in_ok-comparer.ensures.read c.compared.ensures;
+      read = compared_read (variable_read c.requires.starts takes read.scope read.number) c.in_ok-comparer.ensures.read c.compared.ensures;
     }

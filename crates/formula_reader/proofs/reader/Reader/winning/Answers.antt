@@ -159,7 +159,7 @@ returns c =
           ∙ ap (λ p. fault_of σ c.expect-2.new.self (m.term p ∷ last s)) (sym here)
           ∙ c.in_ok-term.ensures.faults (last s)
           ∙ (c.in_ok-expect-3.ensures σ).faults s;
-      read = wrapped_read (λ w. win game.name moves.digits w) (λ w. refl) (λ xs w. refl)
+      read = wrapped_read (λ w. win game.name moves.digits w) (λ w. refl)
           (keeps_both took.keeps (keeps_both paren.word_is.keeps (keeps_both game.word_is.keeps (keeps_both comma.keeps (keeps_both moves.word_is.keeps comma_2.keeps)))))
           (comma_2.bytes ∙ moves.word_is.bytes ∙ comma.bytes ∙ game.word_is.bytes ∙ paren.word_is.bytes ∙ took.takes.bytes)
           (omega (arith, took.takes.on, paren.word_is.on, game.word_is.on, comma.on, moves.word_is.on, comma_2.on)) c.in_ok-term.ensures.read last_word
