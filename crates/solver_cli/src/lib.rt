@@ -4,6 +4,7 @@
 mod answering;
 mod counting;
 mod inputs;
+mod outcome;
 mod reading;
 mod reporting;
 mod running;

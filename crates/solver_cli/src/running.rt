@@ -4,7 +4,7 @@ ghost use Rattle.io_edge.specs.Edge.{Rose, IsMissing};
 ghost use Rattle.command_words.specs.Words.{said, texts, IsKnown};
 ghost use Rattle.stored_games.specs.Games.{game_names};
 ghost use Rattle.solver_cli.specs.Language.{Fault, IsFirstFault};
-ghost use Rattle.solver_cli.specs.Lines.{fault_line, line_of};
+ghost use Rattle.solver_cli.specs.Lines.{fault_line, line_of, status_of};
 ghost use Rattle.solver_cli.specs.Writing.{WritesLine};
 ghost use Rattle.solver_cli.specs.Reading.{FailsToRead, Calls};
 ghost use Rattle.solver_cli.specs.Files.{OfNamed};
@@ -13,39 +13,29 @@ ghost use Rattle.solver_cli.specs.Run.{output_of, WritesAll, WritesFewer, Writes
 
 use crate::answering::write_texts;
 use crate::inputs::input_bytes;
+use crate::outcome::Outcome;
 use crate::reporting::{report, report_fault};
 use crate::status::Status;
 use crate::stop::Stop;
 use command_words::{Input, NoInput, read_words};
-use formula_reader::{Fault, ReadError, read_file};
+use formula_reader::{ReadError, read_file};
 use io_edge::{Sink, Source};
 use std::alloc::Global;
 use stored_games::game_names;
 
-// How a run came out.
-#[derive(Clone, Copy, Debug, PartialEq, Eq, Drop)]
-enum Outcome {
-    Done,
-    Refused(Fault),
-    Usage,
-    ReadFault,
-    WriteFault,
-    Memory,
-}
-
 // Checks the bytes whole, and then writes what the input asks for.
 fn answer_bytes<O: Sink>(alloc: Global, input: &Input, bytes: &[u8], out: &mut O) -> Outcome
-    ensures all { result ≡ Outcome.Done →
+    ensures all { status_of result ≡ Status.Done →
         OfReading bytes.now (λ file. WritesAll O.writes O.taken (output_of (said input.now)) file out.old out.new) }
-    ensures cut { result ≡ Outcome.WriteFault →
+    ensures cut { status_of result ≡ Status.WriteFault →
         OfReading bytes.now (λ file. WritesCut O.writes O.taken (output_of (said input.now)) file out.old out.new) }
-    ensures failed { result ≡ Outcome.WriteFault → Rose (O.faults out.old) (O.faults out.new) }
-    ensures fewer { result ≡ Outcome.Memory → (out.new ≡ out.old)
+    ensures failed { status_of result ≡ Status.WriteFault → Rose (O.faults out.old) (O.faults out.new) }
+    ensures fewer { status_of result ≡ Status.Memory → (out.new ≡ out.old)
         ⊎ OfReading bytes.now (λ file. WritesFewer O.writes O.taken (output_of (said input.now)) file out.old out.new) }
     ensures refused { (fault : Fault) → result ≡ Outcome.Refused fault → IsFirstFault bytes.now fault }
     ensures silent { (fault : Fault) → result ≡ Outcome.Refused fault → out.new ≡ out.old }
-    ensures usage { result ≢ Outcome.Usage }
-    ensures read { result ≢ Outcome.ReadFault }
+    ensures usage { status_of result ≢ Status.Usage }
+    ensures read { status_of result ≢ Status.ReadFault }
 {
     let file = match read_file(alloc, bytes) {
         Ok(file) => file,
@@ -67,26 +57,26 @@ fn answer_input<S: Source, O: Sink>(
     out: &mut O,
 ) -> Outcome
     requires { IsKnown game_names (said input.now) }
-    ensures usage { result ≢ Outcome.Usage }
+    ensures usage { status_of result ≢ Status.Usage }
     ensures not_called { ¬ IsFileWith (λ name. Unit {0}) (said input.now) → source.new ≡ source.old }
-    ensures calls { result ≢ Outcome.ReadFault → (source.new ≡ source.old) ⊎ IsFileWith (λ name. (bytes : List ℕ)
+    ensures calls { status_of result ≢ Status.ReadFault → (source.new ≡ source.old) ⊎ IsFileWith (λ name. (bytes : List ℕ)
         × Calls S.opens S.reads S.left 1048577 name source.old bytes source.new) (said input.now) }
-    ensures read_fault { result ≡ Outcome.ReadFault → Rose (S.faults source.old) (S.faults source.new)
+    ensures read_fault { status_of result ≡ Status.ReadFault → Rose (S.faults source.old) (S.faults source.new)
         ⊎ IsFileWith (λ name. IsMissing (S.files source.old) name) (said input.now) }
-    ensures failing { result ≡ Outcome.ReadFault → IsFileWith (λ name. (bytes : List ℕ)
+    ensures failing { status_of result ≡ Status.ReadFault → IsFileWith (λ name. (bytes : List ℕ)
         × FailsToRead S.opens S.reads S.left 1048577 name source.old bytes source.new) (said input.now) }
-    ensures unread { result ≡ Outcome.ReadFault → out.new ≡ out.old }
+    ensures unread { status_of result ≡ Status.ReadFault → out.new ≡ out.old }
     ensures refused { (fault : Fault) → result ≡ Outcome.Refused fault → IsFileWith (λ name.
         OfNamed S.opens S.reads S.left S.files name source.old source.new (λ bytes. IsFirstFault bytes fault)) (said input.now) }
     ensures silent { (fault : Fault) → result ≡ Outcome.Refused fault → out.new ≡ out.old }
-    ensures write_fault { result ≡ Outcome.WriteFault → Rose (O.faults out.old) (O.faults out.new) }
-    ensures cut { result ≡ Outcome.WriteFault →
+    ensures write_fault { status_of result ≡ Status.WriteFault → Rose (O.faults out.old) (O.faults out.new) }
+    ensures cut { status_of result ≡ Status.WriteFault →
         OfBytes S.opens S.reads S.left S.files (said input.now) source.old source.new (λ bytes.
         OfReading bytes (λ file. WritesCut O.writes O.taken (output_of (said input.now)) file out.old out.new)) }
-    ensures memory { result ≡ Outcome.Memory → (out.new ≡ out.old)
+    ensures memory { status_of result ≡ Status.Memory → (out.new ≡ out.old)
         ⊎ OfBytes S.opens S.reads S.left S.files (said input.now) source.old source.new (λ bytes.
         OfReading bytes (λ file. WritesFewer O.writes O.taken (output_of (said input.now)) file out.old out.new)) }
-    ensures done { result ≡ Outcome.Done →
+    ensures done { status_of result ≡ Status.Done →
         OfBytes S.opens S.reads S.left S.files (said input.now) source.old source.new (λ bytes.
         OfReading bytes (λ file. WritesAll O.writes O.taken (output_of (said input.now)) file out.old out.new)) }
 {
@@ -98,7 +88,13 @@ fn answer_input<S: Source, O: Sink>(
 }
 
 // Writes the line of an outcome, and gives its status.
-fn tell<E: Sink>(err: &mut E, outcome: Outcome) -> Status {
+fn tell<E: Sink>(err: &mut E, outcome: Outcome) -> Status
+    ensures status { result ≡ status_of outcome }
+    ensures fault { (fault : Fault) → outcome ≡ Outcome.Refused fault →
+        WritesLine E.writes E.taken E.faults err.old (fault_line fault) err.new }
+    ensures line { result ≢ Status.Refused → WritesLine E.writes E.taken E.faults err.old (line_of result) err.new }
+    ensures quiet { result ≡ Status.Done → err.new ≡ err.old }
+{
     let status = match outcome {
         Outcome::Done => return Status::Done,
         Outcome::Refused(fault) => {
