@@ -30,8 +30,9 @@ solve exists X: (X = u(X, X) & win(move, 2, X)).
 ";
 
 /// The names of the stored games.
+#[tactic(auto, unfolding(crate::specs::Games::game_names))]
 pub fn game_names() -> [&'static str; 3]
-    ensures { map (λ name. name.now) result.items ≡ game_names }
+    ensures { map (λ name. name.now) result ≡ game_names }
 {
     ["take2", "two_piles", "unroll"]
 }
