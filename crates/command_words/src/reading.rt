@@ -1,5 +1,5 @@
 // Reads the words by a command of clap.
-ghost use Rattle.std.specs.Prelude.{◌≡◌, ◌≢◌, false, ◌↔◌, [], ◌∷◌, Some, None, IfOk, codes, option_copied};
+ghost use Rattle.std.specs.Prelude.{◌≡◌, ◌≢◌, false, ◌↔◌, ℕ, List, [], ◌∷◌, Some, None, IfOk, codes, option_copied};
 ghost use Rattle.clap.specs.Words.{app_of, found_of, kind_of, rows_of, rule_of, matches_of, fault_of};
 ghost use Rattle.command_words.specs.Words.{file_rule, game_rule, self_rule, command, is_among, game_named, text_of_questions, named, only, input_of, IsKnown, texts, said, program};
 

@@ -10,10 +10,11 @@ use Rattle.solver_cli.specs.Language.{File, Fault, ReadsAs, IsFirstFault}
 use Rattle.solver_cli.specs.Reading.{ReadsAll, Calls}
 use Rattle.solver_cli.specs.Reading.Calls.{all}
 use Rattle.solver_cli.specs.Files.{OfNamed}
-use Rattle.command_words.specs.Words.{Input, file, game, generated, IsKnown}
+use Rattle.command_words.specs.Words as words
+use Rattle.command_words.specs.Words.{Input, IsKnown}
 use Rattle.stored_games.specs.Games.{game_names, game_text}
 use Rattle.written_files.specs.Files.{file_text}
-use Rattle.generator.specs.Generated as generator
+use Rattle.generator.specs.Generated.{generated}
 use Rattle.formula_grammar.specs.FirstFault.{file_fault}
 use Rattle.solver_cli.specs.Inputs.{IsFileWith, AreBytesOf, OfBytes}
 use Rattle.solver_cli.specs.Run.{OfReading}
@@ -108,10 +109,10 @@ module _ {S : Type 0} (opens : S → List ℕ → Result (Unit {0}) Failed → S
       (λ short. sym (take_all 1048577 bytes short))
       (cases_lt 1048577 (length bytes))
 
-  pub takes_game : (name : List ℕ) (old : S) (bytes : List ℕ) → game_text name ≡ Some bytes → Takes (game name) old old bytes
+  pub takes_game : (name : List ℕ) (old : S) (bytes : List ℕ) → game_text name ≡ Some bytes → Takes (words.game name) old old bytes
   takes_game name old bytes is = (bytes, (is, refl), whole_of_faultless bytes (game_is_faultless name bytes is))
 
-  pub takes_generated : (questions : ℕ) (old : S) (bytes : List ℕ) → questions ≤ 1000 → bytes ≡ file_text (generator.generated questions) → Takes (generated questions) old old bytes
+  pub takes_generated : (questions : ℕ) (old : S) (bytes : List ℕ) → questions ≤ 1000 → bytes ≡ file_text (generated questions) → Takes (words.generated questions) old old bytes
   takes_generated questions old bytes few is =
       let none : file_fault bytes ≡ None = rw is (generated_is_faultless questions few) in
       (bytes, (is, refl), whole_of_faultless bytes none)
@@ -119,10 +120,10 @@ module _ {S : Type 0} (opens : S → List ℕ → Result (Unit {0}) Failed → S
   -- only a file is refused
   pub fault_of_input : (input : Input) (old new : S) (taken : List ℕ) (fault : Fault) → IsKnown game_names input → Takes input old new taken → IsFirstFault taken fault
       → IsFileWith (λ name. OfNamed opens reads left files name old new (λ bytes. IsFirstFault bytes fault)) input
-  fault_of_input (file name) old new taken fault known of is = fault_of_file opens reads left files name old new taken fault of is
-  fault_of_input (game name) old new taken fault known of is =
+  fault_of_input (words.file name) old new taken fault known of is = fault_of_file opens reads left files name old new taken fault of is
+  fault_of_input (words.game name) old new taken fault known of is =
       absurd (no_fault of.0 fault (game_is_faultless name of.0 of.1.0) (fault_of_taken of.0 fault (subst (λ (l : List ℕ). IsFirstFault l fault) of.2 is)))
-  fault_of_input (generated questions) old new taken fault known of is =
+  fault_of_input (words.generated questions) old new taken fault known of is =
       let none : file_fault of.0 ≡ None = subst (λ (l : List ℕ). file_fault l ≡ None) (sym of.1.0) (generated_is_faultless questions known) in
       absurd (no_fault of.0 fault none (fault_of_taken of.0 fault (subst (λ (l : List ℕ). IsFirstFault l fault) of.2 is)))
 
@@ -135,6 +136,6 @@ module _ {S : Type 0} (opens : S → List ℕ → Result (Unit {0}) Failed → S
   -- nothing is called for what is no file
   pub calls_of_input : (input : Input) (old new : S) (taken : List ℕ) → Takes input old new taken
       → (new ≡ old) ⊎ IsFileWith (λ name. (bytes : List ℕ) × Calls opens reads left 1048577 name old bytes new) input
-  calls_of_input (file name) old new taken of = inr (calls_of_file opens reads left files name old new taken of)
-  calls_of_input (game name) old new taken of = inl of.1.1
-  calls_of_input (generated questions) old new taken of = inl of.1.1
+  calls_of_input (words.file name) old new taken of = inr (calls_of_file opens reads left files name old new taken of)
+  calls_of_input (words.game name) old new taken of = inl of.1.1
+  calls_of_input (words.generated questions) old new taken of = inl of.1.1

@@ -8,7 +8,7 @@ use Rattle.written_files.specs.Files.{file_text}
 use Rattle.generator.specs.Generated.{generated}
 use Rattle.generator.proofs.Large.{is_faultless}
 use Rattle.stored_games.specs.Games.{game_text}
-use Rattle.stored_games.proofs.Lawful.{games_are_faultless}
+use Rattle.stored_games.proofs.Lawful.{faultless}
 use Rattle.solver_cli.specs.Language.{File, Fault, ReadsAs, IsFirstFault}
 
 pub never_both : (bytes : List ℕ) (file : File) (fault : Fault) → ReadsAs bytes file → IsFirstFault bytes fault → ⊥
@@ -32,7 +32,7 @@ pub no_fault : (bytes : List ℕ) (fault : Fault) → file_fault bytes ≡ None 
 no_fault bytes fault none is = cc (none, is)
 
 pub game_is_faultless : (name text : List ℕ) → game_text name ≡ Some text → file_fault text ≡ None
-game_is_faultless = games_are_faultless
+game_is_faultless = faultless
 
 pub generated_is_faultless : (questions : ℕ) → questions ≤ 1000 → file_fault (file_text (generated questions)) ≡ None
 generated_is_faultless = is_faultless

@@ -70,7 +70,7 @@ module _ {O : Type 0} (writes : O → List ℕ → Result ℕ Failed → O → T
   pub ended : (place : ℕ) (old now : O) → Reached writes taken faults output file place old now → place ≡ text_count output file → WritesAll writes taken output file old now
   ended place old now far last = record { some = far.some; all = far.at ∙ last }
 
-  pub fewer : (place : ℕ) (old now : O) → Reached writes taken faults output file place old now → place < text_count output file → WritesFewer writes taken output file old now
+  abbrev pub fewer : (place : ℕ) (old now : O) → Reached writes taken faults output file place old now → place < text_count output file → WritesFewer writes taken output file old now
   fewer place old now far room = record { some = far.some; fewer = omega (arith, far.at, room) }
 
   pub was_cut : (place : ℕ) (old middle new : O) (text : List ℕ) → Reached writes taken faults output file place old middle → place < text_count output file → IsRightText output file place text

@@ -1,5 +1,5 @@
 // The verdicts of the statements of a file are counted.
-ghost use Rattle.std.specs.Prelude.{◌≡◌, ◌-◌, ◌^◌, ◌<◌, ℕ, List, [], ◌∷◌, ◌++◌, IfOk, string_bytes};
+ghost use Rattle.std.specs.Prelude.{◌≡◌, ◌↔◌, ◌-◌, ◌^◌, ◌<◌, ℕ, List, [], ◌∷◌, ◌++◌, IfOk, string_bytes};
 ghost use Rattle.formula_ast.specs.WellFormed.{IsWellFormed, IsStatementOver};
 ghost use Rattle.step_facts.specs.Lists.{IsPlain};
 ghost use Rattle.game_library.specs.Entries.{AreRight};
@@ -57,6 +57,18 @@ impl Counts {
     }
 }
 
+// The verdict that an answer gives.
+fn said_by(answer: &Answer) -> Verdict
+    ensures valid { (result ≡ Verdict.Valid) ↔ (answer.now ≡ Answer.True) }
+    ensures unsatisfiable { (result ≡ Verdict.Unsatisfiable) ↔ (answer.now ≡ Answer.False) }
+{
+    match answer {
+        Answer::True => Verdict::Valid,
+        Answer::False => Verdict::Unsatisfiable,
+        Answer::Open { .. } => Verdict::Neither,
+    }
+}
+
 // Decides a statement. The table of solved predicates and wins gets what it lacks.
 fn verdict_of(
     alloc: Global,
@@ -70,11 +82,8 @@ fn verdict_of(
     ensures table { AreRight IsPlain file.now table.new }
     ensures right { IfOk result (IsRightVerdict file.now s.now) }
 {
-    match decide_by(alloc, &mut PlainEngine, file, s, table)? {
-        Answer::True => Ok(Verdict::Valid),
-        Answer::False => Ok(Verdict::Unsatisfiable),
-        Answer::Open { .. } => Ok(Verdict::Neither),
-    }
+    let answer = decide_by(alloc, &mut PlainEngine, file, s, table)?;
+    Ok(said_by(&answer))
 }
 
 // How many statements of the file have each verdict.
