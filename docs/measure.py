@@ -42,6 +42,9 @@ HEAD = 'symbol f/8, g/2, a/0.\n'
 
 QUESTION = 'solve exists X Y: (X = g(Y, X) & g(a, Y) = g(Y, a)).\n'
 
+# a last statement for which a file is refused when all before it was read
+FAULT = 'solve q.\n'
+
 
 def padded(text, n):
     assert len(text) <= n
@@ -62,13 +65,13 @@ def term(parts):
 
 
 def long_term(head, name, n):
-    """This head, and a term of as many variables as fit."""
+    """This head, a term of as many variables as fit, and a fault."""
     low, high = 1, n // 2
     while low < high:
         middle = (low + high + 1) // 2
-        fits = len(head) + len(term([name(i) for i in range(middle)])) + 1 <= n
+        fits = len(head) + len(term([name(i) for i in range(middle)])) + len(FAULT) + 2 <= n
         low, high = (middle, high) if fits else (low, middle - 1)
-    return padded(head + term([name(i) for i in range(low)]) + '.', n)
+    return padded(head + term([name(i) for i in range(low)]) + '.\n' + FAULT, n)
 
 
 def declarations(n):
@@ -92,13 +95,13 @@ KINDS = {
     'one comment': lambda n: HEAD + 'solve exists X: X = a %' + 'c' * (n - 60) + '\n.',
     'one formula, all variables distinct': lambda n: long_term(HEAD + 'solve X = ', lambda i: 'V%d' % i, n),
     'uses of one of 999 bound variables': bound,
-    '1000 times `&`, again and again': lambda n: repeated('solve true%s.\n' % (' & true' * 1000), n),
-    '200 nestings, again and again': lambda n: repeated('solve %sX = a%s.\n' % ('(' * 200, ')' * 200), n),
+    '1000 times `&`, again and again': lambda n: repeated('solve true%s.\n' % (' & true' * 1000), n, FAULT),
+    '200 nestings, again and again': lambda n: repeated('solve %sX = a%s.\n' % ('(' * 200, ')' * 200), n, FAULT),
     '199 quantifiers of 5 variables, again and again': lambda n: repeated(
-        'solve %sA0 = E198.\n' % ''.join('exists A%d B%d C%d D%d E%d: ' % (5 * (i,)) for i in range(199)), n),
+        'solve %sA0 = E198.\n' % ''.join('exists A%d B%d C%d D%d E%d: ' % (5 * (i,)) for i in range(199)), n, FAULT),
     'predicates of 999 `&`, `|` and variables': lambda n: padded(HEAD + ''.join(
-        'pred p%03d(X, Y) := %strue.\n' % (i, 'exists Z: (X = g(Z, Y) & finite(Z)) | ' * 333) for i in range((n - 30) // 12_700)), n),
-    'questions, and one that is not answered yet': lambda n: repeated(QUESTION, n, 'solve X = X.\n'),
+        'pred p%03d(X, Y) := %strue.\n' % (i, 'exists Z: (X = g(Z, Y) & finite(Z)) | ' * 333) for i in range((n - 40) // 12_700)) + FAULT, n),
+    'questions, and a fault': lambda n: repeated(QUESTION, n, FAULT),
 }
 
 

@@ -1,5 +1,5 @@
 use super::*;
-use formula_ast::{File, Formula, Names, Term, Terms};
+use formula_ast::{File, Formula, Names, Pred, Term, Terms};
 use signature::{Kind, Signature};
 use std::alloc::{AllocError, Global};
 use std::fmt::Write;
@@ -110,8 +110,7 @@ fn write_named(shown: &mut String, names: &Names, formula: &Formula) -> Result<(
 }
 
 // A predicate's place, the number of its parameters, and its body.
-fn write_predicate(shown: &mut String, file: &File, i: usize) -> Result<(), AllocError> {
-    let pred = file.preds.get(i);
+fn write_predicate(shown: &mut String, pred: &Pred) -> Result<(), AllocError> {
     write!(shown, "{}/{} ", pred.place, pred.params)?;
     write_named(shown, &pred.names, &pred.body)?;
     write!(shown, ". ")
@@ -125,7 +124,7 @@ fn write_file(shown: &mut String, file: &File) -> Result<(), AllocError> {
         write!(shown, "{kind:?} {name}/{arity}. ")?;
     }
     for i in 0..file.preds.len() {
-        write_predicate(shown, file, i)?;
+        write_predicate(shown, file.preds.get(i))?;
     }
     for i in 0..file.solves.len() {
         let statement = file.solves.get(i);

@@ -34,7 +34,7 @@ const WINS: &str = "\
 // two piles
 1 true; 2 false; 3 false << symbol p/2, s/1, z/0.^pred move(X, Y) := exists A B: (Y = p(A, B) & (X = p(s(A), B) | X = p(A, s(B)))).^solve win(move, 1, p(s(z), z)).^solve win(move, 1, p(s(z), s(z))).^solve exists X: (X = s(X) & win(move, 1, p(X, z))).^
 // a step to one of two subtrees
-1 true; 2 false; 3 true; 4 false << symbol u/2, e/0.^pred move(X, Y) := exists A: (X = u(Y, A) | X = u(A, Y)).^solve win(move, 1, u(e, u(e, e))).^solve win(move, 1, u(u(e, e), u(e, e))).^solve exists X: (X = u(X, e) & win(move, 1, X)).^solve exists X: (X = u(X, X) & win(move, 2, X)).^";
+1 true; 2 false; 3 true << symbol u/2, e/0.^pred move(X, Y) := exists A: (X = u(Y, A) | X = u(A, Y)).^solve win(move, 1, u(e, u(e, e))).^solve win(move, 1, u(u(e, e), u(e, e))).^solve exists X: (X = u(X, e) & win(move, 1, X)).^";
 
 #[test]
 fn wins_are_answered(rt: HostRuntime) -> Result<(), Fail> {
