@@ -32,7 +32,9 @@ fn game_bytes(alloc: Global, name: &str) -> Result<Vec<u8>, Stop>
     ensures bytes { IfOk result (λ bytes. game_text name.now ≡ Some bytes.items) }
     ensures error { IsErrOf result Failed → ⊥ }
 {
-    let Some(text) = game(name) else { unreachable!() };
+    let Some(text) = game(name) else {
+        unreachable!()
+    };
     copied(alloc, text).map_err(|_| Stop::NoMemory)
 }
 
