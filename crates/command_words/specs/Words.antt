@@ -1,5 +1,5 @@
 -- The words of the command line: the input that they name, or that they are refused.
-use Rattle.std.specs.Prelude.{ℕ, ◌&&◌, List, [], ◌∷◌, ◌++◌, length, nat_le, Bool, false, Option, Some, None, codes, if◌then◌else◌, option_map, option_to_list, map, string_bytes}
+use Rattle.std.specs.Prelude.{◌≡◌, ℕ, ◌≤◌, ◌&&◌, List, [], ◌∷◌, ◌++◌, length, nat_le, Bool, true, false, Option, Some, None, codes, if◌then◌else◌, option_map, option_to_list, map, string_bytes}
 use Rattle.std.specs.List.{list_all, list_any}
 use Rattle.std.specs.Char.{is_ascii_digit}
 use Rattle.std.specs.Str.Parse.{digits_value}
@@ -94,3 +94,9 @@ abbrev pub said : Read → Input
 said (read.File name) = file (string_bytes name)
 said (read.Game name) = game (string_bytes name)
 said (read.Generated questions) = generated questions
+
+-- a game is one of these, and there are at most 1000 questions
+abbrev pub IsKnown : List Text → Input → Type 0
+IsKnown games (file name) = Unit {0}
+IsKnown games (game name) = is_among games name ≡ true
+IsKnown games (generated questions) = questions ≤ 1000

@@ -1,7 +1,7 @@
 // Reads the words by a command of clap.
-ghost use Rattle.std.specs.Prelude.{◌≡◌, ◌≢◌, false, ◌↔◌, [], ◌∷◌, Some, None, IfOk, codes, option_copied};
+ghost use Rattle.std.specs.Prelude.{◌≡◌, ◌≢◌, false, ◌↔◌, ℕ, List, [], ◌∷◌, Some, None, IfOk, codes, option_copied};
 ghost use Rattle.clap.specs.Words.{app_of, found_of, kind_of, rows_of, rule_of, matches_of, fault_of};
-ghost use Rattle.command_words.specs.Words.{file_rule, game_rule, self_rule, command, is_among, game_named, text_of_questions, named, only, input_of, texts, said, program};
+ghost use Rattle.command_words.specs.Words.{file_rule, game_rule, self_rule, command, is_among, game_named, text_of_questions, named, only, input_of, IsKnown, texts, said, program};
 
 use crate::input::{Input, NoInput};
 use crate::numbers::number;
@@ -84,6 +84,7 @@ fn is_among(names: &[&str], name: &str) -> bool
 fn game_named(alloc: Global, games: &[&str], name: &str) -> Result<Input, NoInput>
     ensures input { IfOk result (λ input. game_named (texts games.now) name.now ≡ Some (said input)) }
     ensures usage { result ≡ Err NoInput.Usage → game_named (texts games.now) name.now ≡ None }
+    ensures known { IfOk result (λ input. IsKnown (texts games.now) (said input)) }
 {
     if is_among(games, name) {
         Ok(Input::Game(String::from_str(alloc, name)?))
@@ -96,6 +97,7 @@ fn game_named(alloc: Global, games: &[&str], name: &str) -> Result<Input, NoInpu
 fn text_of_questions(digits: &str) -> Result<Input, NoInput>
     ensures input { IfOk result (λ input. text_of_questions digits.now ≡ Some (said input)) }
     ensures usage { result ≡ Err NoInput.Usage → text_of_questions digits.now ≡ None }
+    ensures known { (games : List (List ℕ)) → IfOk result (λ input. IsKnown games (said input)) }
 {
     match number(digits, 1000) {
         Some(questions) => Ok(Input::Generated(questions as u32)),
@@ -113,6 +115,7 @@ fn only(
 ) -> Result<Input, NoInput>
     ensures input { IfOk result (λ input. only (named (texts games.now) (option_copied file.entry) (option_copied game.entry) (option_copied questions.entry)) ≡ Some (said input)) }
     ensures usage { result ≡ Err NoInput.Usage → only (named (texts games.now) (option_copied file.entry) (option_copied game.entry) (option_copied questions.entry)) ≡ None }
+    ensures known { IfOk result (λ input. IsKnown (texts games.now) (said input)) }
 {
     match (file, game, questions) {
         (Some(name), None, None) => Ok(Input::File(String::from_str(alloc, name)?)),
@@ -125,6 +128,7 @@ fn only(
 /// Reads the words of the command line, without the program's name, where the stored games have these names.
 pub fn read_words(alloc: Global, words: &[&str], games: &[&str]) -> Result<Input, NoInput>
     ensures input { IfOk result (λ input. input_of (texts games.now) (texts words.now) ≡ Some (said input)) }
+    ensures known { IfOk result (λ input. IsKnown (texts games.now) (said input)) }
     // `Usage` exactly where the words are refused, but that memory may be wanting before that is known.
     ensures usage { result ≡ Err NoInput.Usage → input_of (texts games.now) (texts words.now) ≡ None }
     ensures used { input_of (texts games.now) (texts words.now) ≡ None → result ≢ Err NoInput.NoMemory → result ≡ Err NoInput.Usage }

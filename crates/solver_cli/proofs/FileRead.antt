@@ -1,5 +1,5 @@
--- What was read of a file is the file, or its first bytes and more than a file may have.
-use Rattle.std.proofs.Common.{◌≡◌, ⊎_elim, ℕ, ◌≤◌, ◌<◌, List, [], ◌++◌, length, take, Option, Some, None, Result, Ok, IsSomeAnd, refl, sym, ◌∙◌, ap, subst, arith}
+-- What was taken of an input is all of it, or its first bytes and more than a file may have.
+use Rattle.std.proofs.Common.{◌≡◌, ◌⊎◌, inl, inr, ⊎_elim, ℕ, ◌≤◌, ◌<◌, List, [], ◌++◌, length, take, Option, Some, None, Result, Ok, IsSomeAnd, refl, sym, ◌∙◌, ap, subst, arith}
 use Rattle.std.proofs.lemmas.List.{append-nil, take_all, length-take-le}
 use Rattle.std.proofs.lemmas.Bool.{cases_lt}
 use Rattle.std.proofs.Math.Seq.{take-append_seam}
@@ -10,7 +10,15 @@ use Rattle.solver_cli.specs.Language.{File, Fault, ReadsAs, IsFirstFault}
 use Rattle.solver_cli.specs.Reading.{ReadsAll, Calls}
 use Rattle.solver_cli.specs.Reading.Calls.{all}
 use Rattle.solver_cli.specs.Files.{OfNamed}
-use Rattle.solver_cli.proofs.Laws.{one_fault, reads_within, long_fault, fault_of_long}
+use Rattle.command_words.specs.Words as words
+use Rattle.command_words.specs.Words.{Input, IsKnown}
+use Rattle.stored_games.specs.Games.{game_names, game_text}
+use Rattle.written_files.specs.Files.{file_text}
+use Rattle.generator.specs.Generated.{generated}
+use Rattle.formula_grammar.specs.FirstFault.{file_fault}
+use Rattle.solver_cli.specs.Inputs.{IsFileWith, AreBytesOf, OfBytes}
+use Rattle.solver_cli.specs.Run.{OfReading}
+use Rattle.solver_cli.proofs.Laws.{one_fault, reads_within, long_fault, fault_of_long, no_fault, game_is_faultless, generated_is_faultless}
 
 -- a file that reads was taken whole
 pub whole_of_reads : (bytes : List ℕ) (file : File) → ReadsAs (take 1048577 bytes) file → take 1048577 bytes ≡ bytes
@@ -89,9 +97,45 @@ module _ {S : Type 0} (opens : S → List ℕ → Result (Unit {0}) Failed → S
       → OfNamed opens reads left files name old new (λ bytes. IsFirstFault bytes fault)
   fault_of_file old new taken fault of is = (of.0, of.1, fault_of_taken of.0 fault (subst (λ (l : List ℕ). IsFirstFault l fault) of.2 is))
 
-  -- where what was taken reads as a file, it is the whole file
-  pub reads_of_file : (old new : S) (taken : List ℕ) (P : List ℕ → Type 0) (file : File) → OfNamed opens reads left files name old new (λ file. taken ≡ take 1048577 file) → ReadsAs taken file → P taken
-      → OfNamed opens reads left files name old new P
-  reads_of_file old new taken P file of reads_as holds =
-      let whole : take 1048577 of.0 ≡ of.0 = whole_of_reads of.0 file (subst (λ (l : List ℕ). ReadsAs l file) of.2 reads_as) in
-      (of.0, of.1, subst P (of.2 ∙ whole) holds)
+module _ {S : Type 0} (opens : S → List ℕ → Result (Unit {0}) Failed → S → Type 0) (reads : S → ℕ → Result ℕ Failed → List ℕ → S → Type 0) (left : S → Option (List ℕ)) (files : S → Option (List (List ℕ × List ℕ))) where
+  -- these bytes were taken of the input
+  abbrev pub Takes : Input → S → S → List ℕ → Type 0
+  Takes input old new taken = OfBytes opens reads left files input old new (λ whole. taken ≡ take 1048577 whole)
+
+  -- bytes without a first fault are taken whole
+  whole_of_faultless : (bytes : List ℕ) → file_fault bytes ≡ None → bytes ≡ take 1048577 bytes
+  whole_of_faultless bytes none = ⊎_elim
+      (λ long. absurd (no_fault bytes long_fault none (fault_of_long bytes (omega (arith, long)))))
+      (λ short. sym (take_all 1048577 bytes short))
+      (cases_lt 1048577 (length bytes))
+
+  pub takes_game : (name : List ℕ) (old : S) (bytes : List ℕ) → game_text name ≡ Some bytes → Takes (words.game name) old old bytes
+  takes_game name old bytes is = (bytes, (is, refl), whole_of_faultless bytes (game_is_faultless name bytes is))
+
+  pub takes_generated : (questions : ℕ) (old : S) (bytes : List ℕ) → questions ≤ 1000 → bytes ≡ file_text (generated questions) → Takes (words.generated questions) old old bytes
+  takes_generated questions old bytes few is =
+      let none : file_fault bytes ≡ None = rw is (generated_is_faultless questions few) in
+      (bytes, (is, refl), whole_of_faultless bytes none)
+
+  -- only a file is refused
+  pub fault_of_input : (input : Input) (old new : S) (taken : List ℕ) (fault : Fault) → IsKnown game_names input → Takes input old new taken → IsFirstFault taken fault
+      → IsFileWith (λ name. OfNamed opens reads left files name old new (λ bytes. IsFirstFault bytes fault)) input
+  fault_of_input (words.file name) old new taken fault known of is = fault_of_file opens reads left files name old new taken fault of is
+  fault_of_input (words.game name) old new taken fault known of is =
+      absurd (no_fault of.0 fault (game_is_faultless name of.0 of.1.0) (fault_of_taken of.0 fault (subst (λ (l : List ℕ). IsFirstFault l fault) of.2 is)))
+  fault_of_input (words.generated questions) old new taken fault known of is =
+      let none : file_fault of.0 ≡ None = subst (λ (l : List ℕ). file_fault l ≡ None) (sym of.1.0) (generated_is_faultless questions known) in
+      absurd (no_fault of.0 fault none (fault_of_taken of.0 fault (subst (λ (l : List ℕ). IsFirstFault l fault) of.2 is)))
+
+  -- where what was taken reads as a file, it is the whole input
+  pub reading_of_input : (input : Input) (old new : S) (taken : List ℕ) (P : File → Type 0) → Takes input old new taken → OfReading taken P → OfBytes opens reads left files input old new (λ bytes. OfReading bytes P)
+  reading_of_input input old new taken P of reading =
+      let whole : take 1048577 of.0 ≡ of.0 = whole_of_reads of.0 reading.0 (subst (λ (l : List ℕ). ReadsAs l reading.0) of.2 reading.1) in
+      (of.0, of.1, subst (λ (l : List ℕ). OfReading l P) (of.2 ∙ whole) reading)
+
+  -- nothing is called for what is no file
+  pub calls_of_input : (input : Input) (old new : S) (taken : List ℕ) → Takes input old new taken
+      → (new ≡ old) ⊎ IsFileWith (λ name. (bytes : List ℕ) × Calls opens reads left 1048577 name old bytes new) input
+  calls_of_input (words.file name) old new taken of = inr (calls_of_file opens reads left files name old new taken of)
+  calls_of_input (words.game name) old new taken of = inl of.1.1
+  calls_of_input (words.generated questions) old new taken of = inl of.1.1

@@ -1,4 +1,6 @@
+pub mod Counts
 pub mod Files
+pub mod Inputs
 pub mod Language
 pub mod Lines
 pub mod Reading

@@ -2,6 +2,8 @@
 use Rattle.std.specs.Prelude.{ℕ, List, [], ◌++◌, decimal, codes}
 use Rattle.solver_cli.specs.Language.{Fault, FaultKind}
 use Rattle.formula_grammar.specs.declared.fault.FaultKind.TheVariants.{Byte, Ended, Syntax, Unknown, Twice, Loose, Arity, Sort, Limit}
+use Rattle.solver_cli.specs.declared.outcome.Outcome.{Outcome}
+use Rattle.solver_cli.specs.declared.outcome.Outcome.TheVariants as outcome
 use Rattle.solver_cli.specs.declared.status.Status.{Status}
 use Rattle.solver_cli.specs.declared.status.Status.TheVariants.{Done, Refused, Usage, ReadFault, WriteFault, Memory}
 
@@ -37,3 +39,12 @@ exit_of Usage = 2
 exit_of ReadFault = 3
 exit_of WriteFault = 4
 exit_of Memory = 5
+
+-- the status of an outcome
+abbrev pub status_of : Outcome → Status
+status_of outcome.Done = Done
+status_of (outcome.Refused fault) = Refused
+status_of outcome.Usage = Usage
+status_of outcome.ReadFault = ReadFault
+status_of outcome.WriteFault = WriteFault
+status_of outcome.Memory = Memory

@@ -2,45 +2,75 @@
 use Rattle.std.specs.Prelude.{◌≡◌, ◌⊎◌, ℕ, ◌+◌, ◌<◌, ◌≤◌, List, [], length, get_or, Option, Result, flat_map}
 use Rattle.std.specs.Io.KnownBytes.{Appends}
 use Rattle.io_edge.specs.declared.failed.Failed.{Failed}
+use Rattle.command_words.specs.Words as words
+use Rattle.command_words.specs.Words.{Input}
+use Rattle.solver_cli.specs.Counts.{IsCountsText}
 use Rattle.solver_cli.specs.Language.{File, Fault, ReadsAs, IsFirstFault, Answered}
 use Rattle.solver_cli.specs.Writing.{WritesEach, IsCut}
 use Rattle.solver_cli.specs.declared.status.Status.{Status}
 use Rattle.solver_cli.specs.declared.status.Status.TheVariants.{Done, Refused}
 
--- texts that are right answers of the first statements of the file, one each, in order
-pub record AnswersFirst (file : File) (texts : List (List ℕ)) : Type 0 where
-  pub no_more : length texts ≤ length file.solves
-  pub each : (i : ℕ) → i < length texts → Answered file (i + 1) (get_or texts i [])
+-- what is written of a file: an answer of each statement, or one line that counts them
+pub data Output : Type 0 where
+  answers : Output
+  counts : Output
+
+-- a generated text is counted
+abbrev pub output_of : Input → Output
+output_of (words.file name) = answers
+output_of (words.game name) = answers
+output_of (words.generated questions) = counts
+
+-- how many texts are written of the file
+abbrev pub text_count : Output → File → ℕ
+text_count answers file = length file.solves
+text_count counts file = 1
+
+-- the text is right at this place, counted from 0: it is an answer of the statement there, or the line of counts
+abbrev pub IsRightText : Output → File → ℕ → List ℕ → Type 0
+IsRightText answers file place text = Answered file (place + 1) text
+IsRightText counts file place text = IsCountsText file text
+
+-- these are the first of the right texts, in order
+pub record AreFirstTexts (output : Output) (file : File) (texts : List (List ℕ)) : Type 0 where
+  pub no_more : length texts ≤ text_count output file
+  pub each : (i : ℕ) → i < length texts → IsRightText output file i (get_or texts i [])
 
 -- the texts, one behind the other
 abbrev pub joined : List (List ℕ) → List ℕ
 joined texts = flat_map (λ text. text) texts
 
--- the bytes are no more than a file may have; right answers of the first statements of the file that they read as
--- went out, one each, in order, each whole, and nothing else
-pub record AnswersSoFar {O : Type 0} (writes : O → List ℕ → Result ℕ Failed → O → Type 0) (taken : O → Option (List ℕ)) (bytes : List ℕ) (old new : O) : Type 0 where
-  pub within : length bytes ≤ 1048576
-  pub file : File
-  pub reads : ReadsAs bytes file
-  pub texts : List (List ℕ)
-  pub right : AnswersFirst file texts
-  pub calls : WritesEach writes old texts new
-  pub known : Appends (taken old) (taken new) (joined texts)
+-- What went out of the right texts of a file.
+module _ {O : Type 0} (writes : O → List ℕ → Result ℕ Failed → O → Type 0) (taken : O → Option (List ℕ)) (output : Output) (file : File) (old new : O) where
+  -- the first of them went out, in order, each whole, and nothing else
+  pub record WritesSome : Type 0 where
+    pub texts : List (List ℕ)
+    pub right : AreFirstTexts output file texts
+    pub calls : WritesEach writes old texts new
+    pub known : Appends (taken old) (taken new) (joined texts)
 
--- the same, of all statements
-pub record AnswersAll {O : Type 0} (writes : O → List ℕ → Result ℕ Failed → O → Type 0) (taken : O → Option (List ℕ)) (bytes : List ℕ) (old new : O) : Type 0 where
-  pub so_far : AnswersSoFar writes taken bytes old new
-  pub all : length so_far.texts ≡ length so_far.file.solves
+  -- all of them
+  pub record WritesAll : Type 0 where
+    pub some : WritesSome
+    pub all : length some.texts ≡ text_count output file
 
--- the same of the first statements, and then a right answer of the next, which there is, went out up to some byte
--- and not whole: the last call failed
-pub record AnswersCut {O : Type 0} (writes : O → List ℕ → Result ℕ Failed → O → Type 0) (taken : O → Option (List ℕ)) (bytes : List ℕ) (old new : O) : Type 0 where
+  -- not all of them
+  pub record WritesFewer : Type 0 where
+    pub some : WritesSome
+    pub fewer : length some.texts < text_count output file
+
+-- the first of them, each whole, and then the next, which there is, went out up to some byte and not whole: the last call
+-- failed
+pub record WritesCut {O : Type 0} (writes : O → List ℕ → Result ℕ Failed → O → Type 0) (taken : O → Option (List ℕ)) (output : Output) (file : File) (old new : O) : Type 0 where
   pub middle : O
-  pub so_far : AnswersSoFar writes taken bytes old middle
-  pub is_next : length so_far.texts < length so_far.file.solves
+  pub fewer : WritesFewer writes taken output file old middle
   pub next : List ℕ
-  pub right : Answered so_far.file (length so_far.texts + 1) next
+  pub right : IsRightText output file (length fewer.some.texts) next
   pub cut : IsCut writes taken middle next new
+
+-- the bytes read as a file with P
+abbrev pub OfReading : List ℕ → (File → Type 0) → Type 0
+OfReading bytes P = (file : File) × ReadsAs bytes file × P file
 
 -- the bytes have a first fault
 abbrev pub HasFault : List ℕ → Type 0

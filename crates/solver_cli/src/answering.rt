@@ -1,53 +1,79 @@
-// A file's bytes are checked, and its statements are answered one by one.
-ghost use Rattle.std.specs.Prelude.{◌≡◌, ◌≢◌, ◌⊎◌};
+// What is asked of a file is written: an answer of each statement, or the line that counts them.
+ghost use Rattle.std.specs.Prelude.{◌≡◌, OnOk, IsErrOf};
 ghost use Rattle.io_edge.specs.Edge.{Rose};
-ghost use Rattle.solver_cli.specs.Language.{Fault, IsFirstFault};
-ghost use Rattle.solver_cli.specs.Run.{AnswersAll, AnswersSoFar, AnswersCut};
+ghost use Rattle.formula_ast.specs.WellFormed.{IsWellFormed};
+ghost use Rattle.command_words.specs.Words.{said};
+ghost use Rattle.solver_cli.specs.declared.stop.Stop.TheVariants.{Failed, NoMemory};
+ghost use Rattle.solver_cli.specs.Run.{answers, counts, output_of, WritesAll, WritesFewer, WritesCut};
 
+use crate::counting::counts_text;
+use crate::stop::Stop;
 use crate::writing::write_whole;
 use answer_texts::answer;
+use command_words::Input;
 use flattening::Solved;
-use formula_reader::{Fault, ReadError, read_file};
+use formula_ast::File;
 use io_edge::Sink;
 use normal_form::PlainEngine;
 use std::alloc::Global;
 
-// How a run came out.
-#[derive(Clone, Copy, Debug, PartialEq, Eq, Drop)]
-pub(crate) enum Outcome {
-    Done,
-    Refused(Fault),
-    ReadFault,
-    WriteFault,
-    Memory,
-}
-
-/// Checks the bytes whole, and then decides each statement and writes its answer before the next one.
-pub(crate) fn answer_bytes<O: Sink>(alloc: Global, bytes: &[u8], out: &mut O) -> Outcome
-    ensures done { result ≡ Outcome.Done → AnswersAll O.writes O.taken bytes.now out.old out.new }
-    ensures refused { (fault : Fault) → result ≡ Outcome.Refused fault → IsFirstFault bytes.now fault }
-    ensures silent { (fault : Fault) → result ≡ Outcome.Refused fault → out.new ≡ out.old }
-    ensures read { result ≢ Outcome.ReadFault }
-    ensures cut { result ≡ Outcome.WriteFault → AnswersCut O.writes O.taken bytes.now out.old out.new }
-    ensures failed { result ≡ Outcome.WriteFault → Rose (O.faults out.old) (O.faults out.new) }
-    ensures memory { result ≡ Outcome.Memory → (out.new ≡ out.old) ⊎ AnswersSoFar O.writes O.taken bytes.now out.old out.new }
+// Decides each statement and writes its answer before the next one.
+fn write_answers<O: Sink>(alloc: Global, file: &File, out: &mut O) -> Result<(), Stop>
+    requires { IsWellFormed file.now }
+    ensures all { OnOk result (WritesAll O.writes O.taken answers file.now out.old out.new) }
+    ensures cut { IsErrOf result Failed → WritesCut O.writes O.taken answers file.now out.old out.new }
+    ensures failed { IsErrOf result Failed → Rose (O.faults out.old) (O.faults out.new) }
+    ensures fewer { IsErrOf result NoMemory → WritesFewer O.writes O.taken answers file.now out.old out.new }
 {
-    let file = match read_file(alloc, bytes) {
-        Ok(file) => file,
-        Err(ReadError::Refused(fault)) => return Outcome::Refused(fault),
-        Err(ReadError::NoMemory) => return Outcome::Memory,
-    };
     let mut engine = PlainEngine;
     // Each predicate and each win that is asked for is solved once for all statements.
     let mut table = Solved::new(alloc);
     'statements: for place in 0..file.solves.len() {
-        let Ok(text) = answer(alloc, &mut engine, &file, place + 1, &mut table) else {
-            return Outcome::Memory;
+        let Ok(text) = answer(alloc, &mut engine, file, place + 1, &mut table) else {
+            return Err(Stop::NoMemory);
         };
         match write_whole(out, text.as_bytes()) {
             Ok(()) => {}
-            Err(_) => return Outcome::WriteFault,
+            Err(_) => return Err(Stop::Failed),
         }
     }
-    Outcome::Done
+    Ok(())
+}
+
+// Decides all statements and writes the line of the counts.
+fn write_counts<O: Sink>(alloc: Global, file: &File, out: &mut O) -> Result<(), Stop>
+    requires { IsWellFormed file.now }
+    ensures all { OnOk result (WritesAll O.writes O.taken counts file.now out.old out.new) }
+    ensures cut { IsErrOf result Failed → WritesCut O.writes O.taken counts file.now out.old out.new }
+    ensures failed { IsErrOf result Failed → Rose (O.faults out.old) (O.faults out.new) }
+    ensures fewer { IsErrOf result NoMemory → WritesFewer O.writes O.taken counts file.now out.old out.new }
+{
+    let Ok(text) = counts_text(alloc, file) else {
+        return Err(Stop::NoMemory);
+    };
+    match write_whole(out, text.as_bytes()) {
+        Ok(()) => Ok(()),
+        Err(_) => Err(Stop::Failed),
+    }
+}
+
+/// Writes what the input asks for of the file that its bytes read as.
+pub(crate) fn write_texts<O: Sink>(
+    alloc: Global,
+    input: &Input,
+    file: &File,
+    out: &mut O,
+) -> Result<(), Stop>
+    requires { IsWellFormed file.now }
+    ensures all { OnOk result (WritesAll O.writes O.taken (output_of (said input.now)) file.now out.old out.new) }
+    ensures cut { IsErrOf result Failed →
+        WritesCut O.writes O.taken (output_of (said input.now)) file.now out.old out.new }
+    ensures failed { IsErrOf result Failed → Rose (O.faults out.old) (O.faults out.new) }
+    ensures fewer { IsErrOf result NoMemory →
+        WritesFewer O.writes O.taken (output_of (said input.now)) file.now out.old out.new }
+{
+    match input {
+        Input::File(_) | Input::Game(_) => write_answers(alloc, file, out),
+        Input::Generated(_) => write_counts(alloc, file, out),
+    }
 }

@@ -2,10 +2,14 @@
 #![tactic(auto)]
 
 mod answering;
+mod counting;
+mod inputs;
+mod outcome;
 mod reading;
 mod reporting;
 mod running;
 mod status;
+mod stop;
 #[cfg(test)]
 mod tests;
 mod writing;

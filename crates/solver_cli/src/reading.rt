@@ -1,10 +1,11 @@
 // A file is opened, and read by a loop.
 ghost use Rattle.std.specs.Prelude.{◌≡◌, ◌≤◌, ◌⊎◌, ℕ, List, take, IfOk, IsErrOf};
 ghost use Rattle.io_edge.specs.Edge.{Rose, IsMissing};
-ghost use Rattle.solver_cli.specs.declared.reading.ReadStop.TheVariants.{Failed, NoMemory};
+ghost use Rattle.solver_cli.specs.declared.stop.Stop.TheVariants.{Failed, NoMemory};
 ghost use Rattle.solver_cli.specs.Reading.{ReadsSome, ReadsAll, ReadsFailing, Opens, FailsToRead};
 ghost use Rattle.solver_cli.specs.Files.{OfNamed};
 
+use crate::stop::Stop;
 use io_edge::Source;
 use std::alloc::Global;
 
@@ -13,15 +14,8 @@ const MOST_TAKEN: usize = 1_048_577;
 
 const ROOM: usize = 4096;
 
-// Why a file was not read.
-#[derive(Clone, Copy, Debug, PartialEq, Eq, Drop)]
-pub(crate) enum ReadStop {
-    Failed,
-    NoMemory,
-}
-
 // Reads the open file to its end, or until `MOST_TAKEN` bytes are taken.
-fn read_whole<S: Source>(alloc: Global, source: &mut S) -> Result<Vec<u8>, ReadStop>
+fn read_whole<S: Source>(alloc: Global, source: &mut S) -> Result<Vec<u8>, Stop>
     ensures all { IfOk result (λ bytes. ReadsAll S.reads S.left 1048577 source.old bytes.items source.new) }
     ensures some { IsErrOf result NoMemory → (bytes : List ℕ) × ReadsSome S.reads S.left 1048577 source.old bytes source.new }
     ensures failing { IsErrOf result Failed → (bytes : List ℕ) × ReadsFailing S.reads S.left 1048577 source.old bytes source.new }
@@ -34,13 +28,13 @@ fn read_whole<S: Source>(alloc: Global, source: &mut S) -> Result<Vec<u8>, ReadS
         let room = ROOM.min(MOST_TAKEN - bytes.len());
         let offered = &mut buffer[..room];
         let Ok(count) = source.read(offered) else {
-            return Err(ReadStop::Failed);
+            return Err(Stop::Failed);
         };
         if count == 0 {
             return Ok(bytes);
         }
         if bytes.extend_from_slice(&offered[..count]).is_err() {
-            return Err(ReadStop::NoMemory);
+            return Err(Stop::NoMemory);
         }
     }
     Ok(bytes)
@@ -51,7 +45,7 @@ pub(crate) fn read_named<S: Source>(
     alloc: Global,
     name: &str,
     source: &mut S,
-) -> Result<Vec<u8>, ReadStop>
+) -> Result<Vec<u8>, Stop>
     ensures all { IfOk result (λ bytes. OfNamed S.opens S.reads S.left S.files name.now source.old source.new
         (λ file. bytes.items ≡ take 1048577 file)) }
     ensures some { IsErrOf result NoMemory → (bytes : List ℕ)
@@ -63,7 +57,7 @@ pub(crate) fn read_named<S: Source>(
 {
     match source.open(name) {
         Ok(()) => {}
-        Err(_) => return Err(ReadStop::Failed),
+        Err(_) => return Err(Stop::Failed),
     }
     read_whole(alloc, source)
 }

@@ -2,12 +2,13 @@
 mod closed;
 mod faults;
 mod fronts;
+mod inputs;
 mod limits;
 mod open;
 mod predicates;
 
 use crate::{Status, report, run};
-use io_edge::{Failed, MemorySink, MemorySource, Source};
+use io_edge::{MemorySink, MemorySource};
 use std::alloc::Global;
 use std::process::Abort;
 use std::test::Fail;
@@ -257,32 +258,6 @@ fn a_line_that_is_not_written_leaves_the_status(rt: HostRuntime) -> Result<(), F
     );
     assert_eq!(rt; err.bytes(), b"".as_slice());
     Ok(())
-}
-
-// The source's call 0 is to fail. So it has met no call where the next one fails.
-fn expect_usage(rt: &impl Abort, alloc: Global, words: &[&str]) -> Result<(), Fail> {
-    let mut source = source_of(alloc, FIRST)?;
-    source.fail_at(0)?;
-    let mut out = MemorySink::new(alloc, 100)?;
-    let mut err = MemorySink::new(alloc, 100)?;
-    assert_eq!(rt;
-        run(alloc, words, &mut source, &mut out, &mut err),
-        Status::Usage
-    );
-    assert_eq!(rt; out.bytes(), b"".as_slice());
-    assert_eq!(rt; err.bytes(), b"fault usage\n".as_slice());
-    assert_eq!(rt; source.open("file"), Err(Failed));
-    Ok(())
-}
-
-#[test]
-fn no_word(rt: HostRuntime) -> Result<(), Fail> {
-    expect_usage(&rt, rt.alloc(), &[])
-}
-
-#[test]
-fn two_words(rt: HostRuntime) -> Result<(), Fail> {
-    expect_usage(&rt, rt.alloc(), &["file", "file"])
 }
 
 #[test]

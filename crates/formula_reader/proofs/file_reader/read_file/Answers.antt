@@ -1,6 +1,5 @@
 use Rattle.std.proofs.Common.{◌≡◌, Some, ◌∙◌}
 use Rattle.formula_grammar.specs.FirstFault.{file_fault}
-use Rattle.formula_grammar.specs.Reading.{ReadsAs}
 use Rattle.formula_grammar.proofs.FormedFiles.{files_are_well_formed}
 use Rattle.formula_reader.specs.Refusals.{IsRefusedWith}
 use Rattle.formula_reader.proofs.Steps.{exits}

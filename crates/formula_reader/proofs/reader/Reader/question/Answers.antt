@@ -1,4 +1,4 @@
-use Rattle.std.proofs.Common.{◌∷◌, [], false, not, refl, sym, ap, ◌∙◌, arith}
+use Rattle.std.proofs.Common.{◌∷◌, [], false, refl, sym, ap, ◌∙◌, arith}
 use Rattle.formula_ast.specs.declared.token.TokenKind.TheVariants as k
 use Rattle.formula_grammar.specs.Machine as m
 use Rattle.formula_grammar.specs.Grammar.{files}
