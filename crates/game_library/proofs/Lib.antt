@@ -3,6 +3,8 @@ pub mod Declared
 pub mod Grown
 pub mod Marked
 pub mod Needed
+pub mod OverTwo
 pub mod Ranges
 pub mod RightEntries
 pub mod Solved
+pub mod TwoGames

@@ -5,6 +5,8 @@ mod completing;
 mod entries;
 mod marks;
 mod solving;
+#[cfg(test)]
+mod tests;
 mod winning;
 
 pub use completing::complete;
