@@ -1,12 +1,11 @@
 -- The keys that each formula asks for, one layer at a time.
-use Rattle.std.proofs.Common.{◌≡◌, ℕ, List, [], ◌∷◌, ◌++◌, refl, ◌⊎◌, inl, inr}
+use Rattle.std.proofs.Common.{◌≡◌, ℕ, [], ◌∷◌, ◌++◌, refl, ◌⊎◌, inl, inr}
 use Rattle.formula_ast.specs.declared.formula.Formula.{Formula}
 use Rattle.formula_ast.specs.declared.formula.Formula.TheVariants as v
 use Rattle.formula_ast.specs.declared.term.Term.{Term}
 use Rattle.formula_ast.specs.declared.term.Terms.{Terms}
 use Rattle.formula_ast.specs.Forms.{form_of}
 use Rattle.formula_ast.proofs.Ties.{always_form, never_form, equal_form, differ_form, finite_form, call_form, win_form, no_form, and_form, or_form, imp_form, iff_form, exists_form, forall_form}
-use Rattle.flattening.specs.declared.solved.Key.{Key}
 use Rattle.flattening.specs.declared.solved.Key.TheVariants.{Call, Win}
 use Rattle.game_library.specs.Needs.{asked_keys}
 

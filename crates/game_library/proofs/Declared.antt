@@ -1,6 +1,6 @@
 -- The predicates of a file stand in the order of their places, and each is declared there.
-use Rattle.std.proofs.Common.{◌≡◌, ℕ, zero, suc, ◌+◌, ◌<◌, ◌≤◌, List, [], ◌∷◌, ◌++◌, map, length, take, refl, sym, ap, subst, ◌∙◌, ◌⊎◌, inl, inr, arith, Option, Some, None}
-use Rattle.std.specs.Prelude.{All, Contains, slice_get}
+use Rattle.std.proofs.Common.{◌≡◌, ℕ, zero, suc, ◌+◌, ◌<◌, ◌≤◌, List, [], ◌∷◌, ◌++◌, length, take, refl, sym, ap, subst, ◌∙◌, ◌⊎◌, inl, inr, arith, Option, Some}
+use Rattle.std.specs.Prelude.{Contains, slice_get}
 use Rattle.std.proofs.lemmas.List.Elements.{All-contains}
 use Rattle.std.proofs.lemmas.Option.{slice_get_within, slice_get_read, get_or_from_slice_get}
 use Rattle.tree_model.specs.declared.kind.Kind.{Kind}
@@ -8,8 +8,7 @@ use Rattle.tree_model.specs.declared.kind.Kind.TheVariants as kind
 use Rattle.tree_model.specs.Signatures.{Signature, Entry, declared_at}
 use Rattle.formula_ast.specs.declared.file.File.{File}
 use Rattle.formula_ast.specs.declared.pred.Pred.{Pred}
-use Rattle.formula_ast.specs.Forms.{Form, form_of, always, never, equal, differ, finite, call, win, no, and, or, imp, iff, exists, forall}
-use Rattle.formula_ast.specs.WellFormed.{FormOver, IsPredOver, IsWellFormed, predicate_at, predicates_from}
+use Rattle.formula_ast.specs.WellFormed.{IsPredOver, IsWellFormed, predicate_at, predicates_from}
 use Rattle.form_facts.proofs.Bodies.{places, head_is, tail_is}
 use Rattle.flattening.specs.declared.solved.Key.{Key}
 use Rattle.flattening.specs.declared.solved.Key.TheVariants.{Call, Win}

@@ -1,5 +1,5 @@
 -- Marks with one key more, and with many.
-use Rattle.std.proofs.Common.{◌≡◌, ℕ, zero, suc, ◌+◌, ◌<◌, ◌≤◌, Bool, true, false, List, [], ◌∷◌, ◌++◌, length, get_or, replicate, refl, sym, ap, subst, ◌∙◌, ◌⊎◌, inl, inr, arith, Option, Some, None}
+use Rattle.std.proofs.Common.{◌≡◌, ℕ, zero, suc, ◌<◌, ◌≤◌, Bool, true, false, List, [], ◌∷◌, ◌++◌, length, get_or, replicate, refl, sym, ap, subst, ◌∙◌, ◌⊎◌, inl, inr, arith, Option, Some, None}
 use Rattle.std.specs.Prelude.{◌||◌, Contains, slice_get, nat_lt, max}
 use Rattle.std.proofs.Math.ListN.{set}
 use Rattle.std.proofs.lemmas.Bool.{false≢true}
@@ -7,7 +7,6 @@ use Rattle.std.proofs.lemmas.Bool.Decides.{nat_tests}
 use Rattle.std.proofs.lemmas.List.Elements.{Contains-append_left, Contains-append_right, Contains-append_cases}
 use Rattle.std.proofs.lemmas.Option.{slice_get_read}
 use Rattle.tree_facts.proofs.Members.{contains_first, contains_cases}
-use Rattle.tree_model.specs.Signatures.{Signature}
 use Rattle.flattening.specs.declared.solved.Key.{Key}
 use Rattle.flattening.specs.declared.solved.Key.TheVariants.{Call, Win}
 use Rattle.game_library.specs.declared.marks.Mark.{Mark}

@@ -1,12 +1,10 @@
 -- Terms and formulas over two variables, of their parts.
-use Rattle.std.proofs.Common.{◌≡◌, ℕ, zero, suc, ◌<◌, ◌≤◌, List, [], ◌∷◌, length, refl, sym, ap, subst, inl, inr, arith}
-use Rattle.std.specs.Prelude.{All, IfSome, Option, Some, slice_get, option_and_then}
+use Rattle.std.proofs.Common.{◌≡◌, ℕ, zero, suc, ◌<◌, ◌≤◌, List, [], ◌∷◌, length, sym, subst, inl, inr, arith}
+use Rattle.std.specs.Prelude.{All, IfSome, Option, slice_get, option_and_then}
 use Rattle.std.proofs.lemmas.List.Elements.{All-nil, All-cons, All-contains}
 use Rattle.std.proofs.lemmas.Option.{slice_get_within, get_or_from_slice_get}
-use Rattle.tree_model.specs.declared.kind.Kind.TheVariants as kind
-use Rattle.tree_model.specs.declared.tree.Symbol.{Symbol}
 use Rattle.tree_model.specs.declared.tree.Symbol.TheVariants.{Further}
-use Rattle.tree_model.specs.Signatures.{Signature, declared_at}
+use Rattle.tree_model.specs.Signatures.{Signature}
 use Rattle.formula_ast.specs.declared.term.Term.{Term}
 use Rattle.formula_ast.specs.declared.term.Terms.{Terms}
 use Rattle.formula_ast.specs.declared.term.Term.TheVariants.{Var, App, outs-App}

@@ -1,13 +1,13 @@
 -- What solves the body of a predicate, or the formula of a win, is a right entry.
-use Rattle.std.proofs.Common.{◌≡◌, ℕ, zero, suc, ◌<◌, ◌≤◌, List, [], ◌∷◌, ◌++◌, length, refl, sym, ap, subst, ◌∙◌, ◌⊎◌, inl, inr, arith}
-use Rattle.std.specs.Prelude.{◌↔◌, All, Contains, IfSome, Option, Some, None, slice_index, slice_get}
+use Rattle.std.proofs.Common.{◌≡◌, ℕ, zero, suc, ◌<◌, List, [], ◌∷◌, length, refl, sym, ap, subst, ◌∙◌, ◌⊎◌, inl, inr, arith}
+use Rattle.std.specs.Prelude.{◌↔◌, All, Contains, Option, Some, slice_index, slice_get}
 use Rattle.std.specs.List.{range_with_len}
-use Rattle.std.proofs.lemmas.List.Elements.{All-nil, All-cons, All-weaker, All-contains, All-contains_itself, Contains-get_or}
+use Rattle.std.proofs.lemmas.List.Elements.{All-nil, All-cons, All-weaker, All-contains}
 use Rattle.std.proofs.lemmas.List.FromFn.{length-range_with_len, get_or-range_with_len}
 use Rattle.tree_facts.proofs.Members.{contains_first, contains_cases}
 use Rattle.tree_model.specs.declared.kind.Kind.TheVariants as kind
 use Rattle.tree_model.specs.declared.tree.Symbol.{Symbol}
-use Rattle.tree_model.specs.Signatures.{Signature, TreeOver, IsRoot, declared_at}
+use Rattle.tree_model.specs.Signatures.{Signature, TreeOver, declared_at}
 use Rattle.tree_model.specs.Trees.{at}
 use Rattle.tree_model.specs.Valuations.{Valuation}
 use Rattle.formula_ast.specs.declared.file.File.{File}
@@ -15,9 +15,8 @@ use Rattle.formula_ast.specs.declared.pred.Pred.{Pred}
 use Rattle.formula_ast.specs.declared.term.Term.{Term}
 use Rattle.formula_ast.specs.declared.term.Term.TheVariants.{Var}
 use Rattle.formula_ast.specs.declared.term.Term.TheViews.{out-Term}
-use Rattle.formula_ast.specs.Forms.{Form, form_of}
-use Rattle.formula_ast.specs.Satisfaction.{Holds, parameters, meaning_of}
-use Rattle.formula_ast.specs.Terms.{subterm}
+use Rattle.formula_ast.specs.Forms.{form_of}
+use Rattle.formula_ast.specs.Satisfaction.{parameters}
 use Rattle.formula_ast.specs.WellFormed.{FormOver, TermOver, OccursIn, IsFreeIn, IsPredOver, IsWellFormed}
 use Rattle.form_facts.specs.Winning.{winning_form}
 use Rattle.form_facts.proofs.Bodies.{predicate_is_its_body}
@@ -30,15 +29,13 @@ use Rattle.flat_form.specs.Reduced.{IsReduced}
 use Rattle.flat_form.specs.Symbols.{cubes_symbols}
 use Rattle.flattening.specs.declared.solved.Key.{Key}
 use Rattle.flattening.specs.declared.solved.Key.TheVariants.{Call, Win}
-use Rattle.flattening.specs.Conditions.{GivesRanks, HasFreeVariables, HasEntries, KeyHolds, EntryMeans}
+use Rattle.flattening.specs.Conditions.{GivesRanks, HasFreeVariables, KeyHolds}
 use Rattle.flattening.specs.Flattening.{flattening_of}
-use Rattle.flattening.specs.Plain.{plain_of}
 use Rattle.flattening.specs.Symbols.{symbols_in, form_symbols}
 use Rattle.flattening.specs.Tables.{HasKey}
-use Rattle.game_library.specs.Entries.{arity, arity_or, StandsInBodies, IsEntry, lost, called, next, IsRight, AreRight}
+use Rattle.game_library.specs.Entries.{arity, arity_or, StandsInBodies, lost, called, next, IsRight}
 use Rattle.game_library.specs.Needs.{asked_keys}
-use Rattle.game_library.specs.Solving.{IsOverFile, StandsIn, SolvesForm, IsSolved}
-use Rattle.game_library.proofs.Solved.{body_over, has_entries}
+use Rattle.game_library.specs.Solving.{StandsIn, IsSolved}
 
 -- ---- within no moves nobody wins
 

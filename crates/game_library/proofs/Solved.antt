@@ -1,13 +1,12 @@
 -- What an engine gives for a formula, by right entries, means the formula.
-use Rattle.std.proofs.Common.{◌≡◌, ℕ, zero, suc, ◌<◌, Bool, true, false, cond, List, [], ◌∷◌, ◌++◌, length, refl, sym, ap, subst, ◌∙◌, ◌⊎◌, inl, inr, arith}
-use Rattle.std.specs.Prelude.{◌↔◌, All, Contains, Option, Some}
+use Rattle.std.proofs.Common.{◌≡◌, ℕ, zero, suc, Bool, true, false, cond, List, [], ◌∷◌, ◌++◌, length, refl, sym, ap, subst, ◌∙◌, ◌⊎◌, inl, inr, arith}
+use Rattle.std.specs.Prelude.{◌↔◌, All, Contains, Some}
 use Rattle.std.proofs.lemmas.Bool.{false≢true}
-use Rattle.std.proofs.lemmas.List.Elements.{All-weaker, All-contains, All-contains_itself, Contains-append_left, Contains-append_right}
+use Rattle.std.proofs.lemmas.List.Elements.{All-weaker, All-contains, Contains-append_left, Contains-append_right}
 use Rattle.tree_facts.proofs.Members.{contains_first}
 use Rattle.lists.specs.Distinct.{IsDistinct}
-use Rattle.tree_model.specs.declared.kind.Kind.TheVariants as kind
 use Rattle.tree_model.specs.declared.tree.Symbol.{Symbol}
-use Rattle.tree_model.specs.Signatures.{Signature, IsRoot, declared_at}
+use Rattle.tree_model.specs.Signatures.{Signature, IsRoot}
 use Rattle.tree_model.specs.Valuations.{Valuation}
 use Rattle.formula_ast.specs.declared.file.File.{File}
 use Rattle.formula_ast.specs.declared.pred.Pred.{Pred}
@@ -25,7 +24,7 @@ use Rattle.flat_form.specs.Symbols.{cube_symbols, cubes_symbols, norm_symbols, A
 use Rattle.flat_form.proofs.Symbols.{fits_by_symbols}
 use Rattle.flattening.specs.declared.solved.Key.{Key}
 use Rattle.flattening.specs.declared.solved.Key.TheVariants.{Call, Win}
-use Rattle.flattening.specs.Conditions.{count, FormulaFits, HasFreeVariables, HasEntries, EntryMeans, EntriesMean, MeansFormula}
+use Rattle.flattening.specs.Conditions.{count, HasFreeVariables, HasEntries, EntryMeans, EntriesMean, MeansFormula}
 use Rattle.flattening.specs.Flattening.{flattening_of}
 use Rattle.flattening.specs.Plain.{terms_of, plain_of}
 use Rattle.flattening.specs.SymbolLaws.{StandsInTable}
@@ -37,9 +36,9 @@ use Rattle.flattening.proofs.Flattened.{flattened_symbols, flattened_fits}
 use Rattle.flattening.proofs.FormSymbols.{symbols_fit}
 use Rattle.flattening.proofs.Readings.{count_length}
 use Rattle.flattening.proofs.Table.{same_is, same_itself}
-use Rattle.game_library.specs.Entries.{arity, arity_or, StandsInBodies, IsEntry, IsRight, AreRight, IsGivenFor}
+use Rattle.game_library.specs.Entries.{arity, arity_or, StandsInBodies, IsRight, AreRight}
 use Rattle.game_library.specs.Needs.{asked_keys}
-use Rattle.game_library.specs.Solving.{IsOverFile, StandsIn, SolvesForm, IsSolved}
+use Rattle.game_library.specs.Solving.{IsOverFile, StandsIn, IsSolved}
 
 -- what an engine promises of a list for a negated conjunction
 pub record IsPromised (gives : ℕ → Norm → List Cube → Type 0) (free : ℕ) (normal : Norm) (cubes : List Cube) : Type 0 where

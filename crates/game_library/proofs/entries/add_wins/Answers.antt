@@ -1,5 +1,5 @@
 use Rattle.std.proofs.Common.{arith}
-use Rattle.flattening.specs.declared.solved.Key.TheVariants.{Call, Win}
+use Rattle.flattening.specs.declared.solved.Key.TheVariants.{Call}
 use Rattle.game_library.proofs.Grown.{grown_then, still_has, wins_more}
 use Rattle.game_library.proofs.entries.add_wins.Goals as goal
 

@@ -1,6 +1,3 @@
-use Rattle.std.proofs.Common.{ℕ, ◌≡◌, subst, Some}
-use Rattle.tree_model.specs.declared.kind.Kind.TheVariants as kind
-use Rattle.tree_model.specs.Signatures.{declared_at}
 use Rattle.form_facts.specs.Winning.{winning_form}
 use Rattle.game_library.proofs.Declared.{stands_declared}
 use Rattle.game_library.proofs.RightEntries.{winning_over, winning_ranks, winning_has, next_right}

@@ -1,5 +1,4 @@
-use Rattle.std.proofs.Common.{[], ◌∷◌, subst, sym}
-use Rattle.game_library.specs.Needs.{Adds, asked_keys}
+use Rattle.game_library.specs.Needs.{asked_keys}
 use Rattle.formula_ast.specs.Forms.{form_of}
 use Rattle.game_library.proofs.Asked.{asked_nothing, asked_atom, asked_call, asked_win, asked_one, asked_both}
 use Rattle.game_library.proofs.Marked.{adds_none, adds_then}

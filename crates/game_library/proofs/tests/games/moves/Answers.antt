@@ -1,4 +1,3 @@
-use Rattle.std.proofs.Common.{ap}
 use Rattle.game_library.proofs.OverTwo.{pair_over}
 use Rattle.formula_ast.proofs.Ties.{call_form}
 use Rattle.game_library.proofs.tests.games.moves.Goals as goal
