@@ -7,8 +7,7 @@ use Rattle.tree_model.specs.declared.tree.Symbol.TheVariants.{Named, Further}
 use Rattle.formula_ast.specs.declared.term.Term.{Term, Var, App', Row_of-Term, end_of-Term, more_of-Term}
 use Rattle.formula_ast.specs.Forms.{Form, always, never, equal, differ, finite, call, win, no, and, or, imp, iff, exists, forall}
 use Rattle.formula_ast.specs.Occurrences.{index_of, indexes_in, indexes_among, index_occurrences}
-use Rattle.formula_ast.proofs.Standing.{Has, contained}
-use Rattle.decision.proofs.Listed.{has_left, has_right}
+use Rattle.formula_ast.proofs.Standing.{Has, contained, has_left, has_right}
 use Rattle.flattening.specs.Symbols.{number_among, symbols_in, symbols_among, form_symbols}
 
 -- a further symbol's index is among these

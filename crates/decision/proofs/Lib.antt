@@ -1,6 +1,4 @@
-pub mod Free
 pub mod Indexes
-pub mod Listed
 pub mod Lists
 pub mod Names
 pub mod ShownSymbols

@@ -8,9 +8,8 @@ use Rattle.formula_ast.specs.declared.token.TokenKind.{TokenKind}
 use Rattle.formula_ast.specs.Occurrences.{without, first_occurrences}
 use Rattle.formula_ast.specs.Tokens.{kind_of}
 use Rattle.formula_ast.specs.WellFormed.{AreWords, AreDistinct}
-use Rattle.formula_ast.proofs.Standing.{contained, from_contained}
+use Rattle.formula_ast.proofs.Standing.{contained, from_contained, has_without}
 use Rattle.explicit_form.proofs.Joined.{map_more}
-use Rattle.decision.proofs.Listed.{has_without}
 use Rattle.decision.proofs.Lists.{stands_at}
 use Rattle.decision.specs.Naming.{names_at}
 

@@ -12,7 +12,7 @@ use Rattle.formula_ast.specs.Forms.{Form, form_of}
 use Rattle.formula_ast.specs.Occurrences.{index_occurrences}
 use Rattle.formula_ast.specs.WellFormed.{FormOver, IsPredOver, IsWellFormed}
 use Rattle.formula_ast.proofs.Standing.{contained, from_contained}
-use Rattle.decision.proofs.Listed.{first_has}
+use Rattle.formula_ast.proofs.Standing.{first_has}
 use Rattle.flat_form.specs.declared.cube.Cube.{Cube}
 use Rattle.flat_form.specs.Fitting.{CubeFits}
 use Rattle.flat_form.specs.Normals.{Norm}

@@ -34,7 +34,7 @@ use Rattle.decision.specs.declared.answer.Answer.TheVariants.{«True», «False�
 use Rattle.decision.specs.Decided.{IsSatisfied, IsSolution, IsSide, OpensRightly}
 use Rattle.decision.specs.Naming.{ranks_of, names_at, free_names, used_indexes}
 use Rattle.decision.specs.Shown.{CanBeShown, ShowsCubes, ShowsBoth}
-use Rattle.decision.proofs.Free.{free_below}
+use Rattle.form_facts.proofs.Free.{free_below}
 use Rattle.decision.proofs.ShownSymbols.{explicit_symbols, fresh_declared}
 use Rattle.decision.proofs.Lists.{at_place, by_rank, gives_by_rank, IsListOf, holds_nowhere, holds_somewhere, not_empty, closed_holds}
 use Rattle.decision.proofs.Names.{first_distinct, names_are_words, names_are_distinct, length_names}

@@ -1,3 +1,4 @@
 pub mod Bodies
+pub mod Free
 pub mod Sameness
 pub mod Winning

@@ -28,12 +28,12 @@ from_contained x [] c = absurd (omega (arith, c.1))
 from_contained x (y ∷ ys) (zero, w, e) = inl e
 from_contained x (y ∷ ys) (suc k, w, e) = inr (from_contained x ys (k, omega (arith, w), e))
 
-has_left : (x : ℕ) (xs ys : List ℕ) → Has x xs → Has x (xs ++ ys)
+pub has_left : (x : ℕ) (xs ys : List ℕ) → Has x xs → Has x (xs ++ ys)
 has_left x [] ys h = absurd h
 has_left x (z ∷ zs) ys (inl e) = inl e
 has_left x (z ∷ zs) ys (inr h) = inr (has_left x zs ys h)
 
-has_right : (x : ℕ) (xs ys : List ℕ) → Has x ys → Has x (xs ++ ys)
+pub has_right : (x : ℕ) (xs ys : List ℕ) → Has x ys → Has x (xs ++ ys)
 has_right x [] ys h = h
 has_right x (z ∷ zs) ys h = inr (has_right x zs ys h)
 
@@ -51,7 +51,7 @@ has_joined x xs ys (inl h) = has_left x xs ys h
 has_joined x xs ys (inr h) = has_right x xs ys h
 
 -- without y the list has what it had but for y
-has_without : (x y : ℕ) (xs : List ℕ) → Has x (without y xs) → (x ≢ y) × Has x xs
+pub has_without : (x y : ℕ) (xs : List ℕ) → Has x (without y xs) → (x ≢ y) × Has x xs
 has_without x y [] h = absurd h
 has_without x y (z ∷ zs) h = by (has_without x y zs) (y == z) refl h
   where
@@ -76,7 +76,7 @@ has_first x [] h = h
 has_first x (y ∷ ys) (inl e) = inl e
 has_first x (y ∷ ys) (inr h) = inr (has_first x ys (has_without x y (first_occurrences ys) h).1)
 
-first_has : (x : ℕ) (xs : List ℕ) → Has x xs → Has x (first_occurrences xs)
+pub first_has : (x : ℕ) (xs : List ℕ) → Has x xs → Has x (first_occurrences xs)
 first_has x [] h = h
 first_has x (y ∷ ys) (inl e) = inl e
 first_has x (y ∷ ys) (inr h) = by (first_has x ys h) (cases_eq x y)

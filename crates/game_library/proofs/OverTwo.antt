@@ -1,8 +1,7 @@
--- Terms and formulas over two variables, of their parts.
-use Rattle.std.proofs.Common.{◌≡◌, ℕ, zero, suc, ◌<◌, ◌≤◌, List, [], ◌∷◌, length, sym, subst, inl, inr, arith}
+-- Terms over two variables, of their parts.
+use Rattle.std.proofs.Common.{◌≡◌, ℕ, zero, suc, ◌<◌, ◌≤◌, List, [], ◌∷◌, length, sym, subst, arith}
 use Rattle.std.specs.Prelude.{All, IfSome, Option, slice_get, option_and_then}
-use Rattle.std.proofs.lemmas.List.Elements.{All-nil, All-cons, All-contains}
-use Rattle.std.proofs.lemmas.Option.{slice_get_within, get_or_from_slice_get}
+use Rattle.std.proofs.lemmas.List.Elements.{All-nil, All-cons}
 use Rattle.tree_model.specs.declared.tree.Symbol.TheVariants.{Further}
 use Rattle.tree_model.specs.Signatures.{Signature}
 use Rattle.formula_ast.specs.declared.term.Term.{Term}
@@ -11,10 +10,7 @@ use Rattle.formula_ast.specs.declared.term.Term.TheVariants.{Var, App, outs-App}
 use Rattle.formula_ast.specs.declared.term.Term.TheOpen.{Term-F}
 use Rattle.formula_ast.specs.declared.term.Term.TheViews.{out-Term}
 use Rattle.formula_ast.specs.Terms.{list_of, argument, subterm}
-use Rattle.formula_ast.specs.Forms.{Form, always, never, equal, differ, finite, call, win, no, and, or, imp, iff, exists, forall}
-use Rattle.formula_ast.specs.WellFormed.{LayerOver, TermOver, FormOver, OccursIn, IsFreeIn}
-
--- ---- terms
+use Rattle.formula_ast.specs.WellFormed.{LayerOver, TermOver}
 
 few_terms : (ts : Terms) (us : List Term) → list_of ts ≡ us → length us ≤ 8 → length (list_of ts) ≤ 8
 few_terms ts us e few = subst (λ (l : List Term). length l ≤ 8) (sym e) few
@@ -53,34 +49,3 @@ module _ (σ : Signature) where
 
   pub pair_over : (t s : Term) → TermOver σ 2 t → TermOver σ 2 s → All (TermOver σ 2) (t ∷ s ∷ [])
   pair_over t s a b = All-cons (TermOver σ 2) t (s ∷ []) a (All-cons (TermOver σ 2) s [] b (All-nil (TermOver σ 2)))
-
--- ---- formulas
-
-module _ (σ callable : Signature) where
-  below : (x : ℕ) (t : Term) → TermOver σ 2 t → OccursIn x t → x < 2
-  unfolding out-Term denote.Hole.Carrier.out
-  below x t over (path, is) = subst (λ (o : Option Term). IfSome o (λ u. LayerOver σ 2 (out-Term u))) is (over path)
-
-  -- each free variable is one of the two
-  pub free_below : (x : ℕ) (f : Form) → FormOver σ callable 2 f → IsFreeIn x f → x < 2
-  free_below x always over free = absurd free
-  free_below x never over free = absurd free
-  free_below x (equal t s) over (inl o) = below x t over.0 o
-  free_below x (equal t s) over (inr o) = below x s over.1 o
-  free_below x (differ t s) over (inl o) = below x t over.0 o
-  free_below x (differ t s) over (inr o) = below x s over.1 o
-  free_below x (finite t) over o = below x t over o
-  free_below x (call p ts) over (i, t, stands, o) =
-      below x t (All-contains (TermOver σ 2) ts t over.1 (i, slice_get_within ts i t stands, get_or_from_slice_get ts i t t stands)) o
-  free_below x (win p k t) over o = below x t over.1 o
-  free_below x (no f) over free = free_below x f over free
-  free_below x (and f g) over (inl free) = free_below x f over.0 free
-  free_below x (and f g) over (inr free) = free_below x g over.1 free
-  free_below x (or f g) over (inl free) = free_below x f over.0 free
-  free_below x (or f g) over (inr free) = free_below x g over.1 free
-  free_below x (imp f g) over (inl free) = free_below x f over.0 free
-  free_below x (imp f g) over (inr free) = free_below x g over.1 free
-  free_below x (iff f g) over (inl free) = free_below x f over.0 free
-  free_below x (iff f g) over (inr free) = free_below x g over.1 free
-  free_below x (exists y f) over free = free_below x f over.1 free.1
-  free_below x (forall y f) over free = free_below x f over.1 free.1

@@ -12,7 +12,7 @@ use Rattle.formula_ast.specs.declared.token.TokenKind.TheVariants as word
 use Rattle.formula_ast.specs.Forms.{form_of}
 use Rattle.formula_ast.specs.Tokens.{kind_of}
 use Rattle.formula_ast.specs.WellFormed.{AreWords, AreDistinct, FormOver, IsNamedOver, IsPredOver, IsStatementOver, predicates_from, IsWellFormed}
-use Rattle.game_library.proofs.OverTwo.{free_below}
+use Rattle.form_facts.proofs.Free.{free_below}
 
 -- ---- names
 
@@ -54,7 +54,7 @@ pred_over σ pred e two over =
     record {
       body = named_over σ (take pred.place σ) pred.names pred.body e (over σ (take pred.place σ));
       params = omega (arith, two, size);
-      closed = λ x free. let less = free_below σ σ x (form_of pred.body) (over σ σ) free in omega (arith, two, less);
+      closed = λ x free. let less = free_below σ σ 2 x (form_of pred.body) (over σ σ) free in omega (arith, two, less);
     }
 
 abbrev places_of : List Pred → List (ℕ × ℕ)
