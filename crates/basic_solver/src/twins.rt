@@ -6,6 +6,7 @@ ghost use Rattle.basic_solver.specs.Names.{name_in};
 ghost use Rattle.basic_solver.specs.Twins.{sign_of, is_same_key, IsKeyOf, IsPlaced, IsTwinned, AreTwins};
 
 use flat_form::{Args, Basic, Flat};
+use smallvec::SmallVec;
 use std::alloc::Global;
 use std::collections::HashMap;
 use tree_model::{NoMemory, Symbol};
@@ -17,11 +18,11 @@ enum Sign {
     Further(u64),
 }
 
-// A symbol applied to names.
+// A symbol applied to names. The first eight stand in the value itself.
 #[derive(Debug, PartialEq, Eq, Hash, Drop)]
 struct Application {
     sign: Sign,
-    names: Vec<usize>,
+    names: SmallVec<usize, 8>,
 }
 
 fn sign_key(symbol: Symbol) -> Sign
@@ -34,13 +35,11 @@ fn sign_key(symbol: Symbol) -> Sign
 }
 
 // The names of the arguments.
-fn names_of(alloc: Global, names: &[usize], xs: &Args) -> Result<Vec<usize>, NoMemory>
+fn names_of(alloc: Global, names: &[usize], xs: &Args) -> Result<SmallVec<usize, 8>, NoMemory>
     requires within { All (λ x. x < length names.now) xs.now }
     ensures { IfOk result (λ list. list.items ≡ map (name_in names.now) xs.now) }
 {
-    let Ok(mut list) = Vec::with_capacity(alloc, xs.len()) else {
-        return Err(NoMemory);
-    };
+    let mut list = SmallVec::new(alloc);
     for i in 0..xs.len() {
         if list.push(names[*xs.get(i)]).is_err() {
             return Err(NoMemory);
@@ -98,7 +97,9 @@ pub(crate) fn twins_of(
     requires over { BasicOver (length names.now) atoms.now }
     ensures { IfOk result (λ twins. AreTwins names.now atoms.now twins.items) }
 {
-    let mut table = HashMap::new(alloc);
+    let Ok(mut table) = HashMap::with_capacity(alloc, atoms.len()) else {
+        return Err(NoMemory);
+    };
     let mut twins = Vec::new(alloc);
     for i in 0..atoms.len() {
         let j = twin(alloc, &mut table, names, atoms.get(i), i)?;

@@ -7,6 +7,7 @@ pub mod KeptAtoms
 pub mod NewNumbers
 pub mod Outcomes
 pub mod Regrouped
+pub mod Remembered
 pub mod RenumberedParts
 pub mod SettledParts
 pub mod Taken

@@ -8,6 +8,7 @@ ghost use Rattle.flat_form.specs.Solved.{variable_of, Ascends};
 ghost use Rattle.flat_form.specs.Steps.{Mentions, WithoutIdle, Settles, IsCleared};
 ghost use Rattle.cube_reduction.specs.Ordering.{WasGrouped, IsOrdered};
 
+use crate::memory::Memory;
 use crate::numbers::Numbers;
 use crate::over::{Over, copy_onto};
 use crate::settling::all_settled;
@@ -112,6 +113,7 @@ fn renumbered(
 // The grouped cube with its settled parts, without its idle variables.
 pub(crate) fn cleared(
     alloc: Global,
+    memory: &mut Memory,
     mid: &Cube,
     idle: &[usize],
     first: &[Part],
@@ -137,7 +139,7 @@ pub(crate) fn cleared(
         busy.as_slice(),
     )?;
     let over = Over { count, base: basic };
-    let second = all_settled(alloc, &over, moved.as_slice())?;
+    let second = all_settled(alloc, memory, &over, moved.as_slice())?;
     let parts = finish(alloc, count, second.as_slice())?;
     Ok(Cube {
         free: mid.free,

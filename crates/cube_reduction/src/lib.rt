@@ -2,14 +2,18 @@
 #![tactic(auto)]
 
 mod clearing;
+mod digests;
 mod grouping;
+mod memory;
 mod numbers;
 mod over;
 mod pruning;
 mod reducing;
 mod settling;
 
-pub use reducing::reduce;
+pub use digests::digest_cube;
+pub use memory::Memory;
+pub use reducing::{reduce, reduce_by};
 
 #[cfg(test)]
 mod tests;

@@ -13,6 +13,7 @@ ghost use Rattle.cube_reduction.specs.Ordering.{WasGrouped};
 
 use crate::clearing::cleared;
 use crate::grouping::{Grouped, group};
+use crate::memory::Memory;
 use crate::over::{Over, solved};
 use crate::settling::settled_unless_implied;
 use flat_form::Cube;
@@ -20,7 +21,11 @@ use lists::NoMemory;
 use std::alloc::Global;
 
 // What the steps behind the grouping come to. None where a part holds wherever the basic does.
-fn eliminated(alloc: Global, grouped: Grouped) -> Result<Option<Cube>, NoMemory>
+fn eliminated(
+    alloc: Global,
+    memory: &mut Memory,
+    grouped: Grouped,
+) -> Result<Option<Cube>, NoMemory>
     requires { WasGrouped grouped.mid grouped.idle }
     ensures { IfOk result (λ found. (raw : Cube) → IsGrouped raw grouped.mid grouped.idle → Outcome raw found) }
 {
@@ -32,7 +37,7 @@ fn eliminated(alloc: Global, grouped: Grouped) -> Result<Option<Cube>, NoMemory>
         count,
         base: mid.basic,
     };
-    match settled_unless_implied(alloc, &over, mid.parts.as_slice())? {
+    match settled_unless_implied(alloc, memory, &over, mid.parts.as_slice())? {
         Some(first) => {
             let mid = Cube {
                 free: mid.free,
@@ -40,7 +45,7 @@ fn eliminated(alloc: Global, grouped: Grouped) -> Result<Option<Cube>, NoMemory>
                 basic: over.base,
                 parts: mid.parts,
             };
-            let cube = cleared(alloc, &mid, idle.as_slice(), first.as_slice())?;
+            let cube = cleared(alloc, memory, &mid, idle.as_slice(), first.as_slice())?;
             Ok(Some(cube))
         }
         None => Ok(None),
@@ -48,7 +53,7 @@ fn eliminated(alloc: Global, grouped: Grouped) -> Result<Option<Cube>, NoMemory>
 }
 
 // What all steps come to.
-fn outcome_of(alloc: Global, raw: &Cube) -> Result<Option<Cube>, NoMemory>
+fn outcome_of(alloc: Global, memory: &mut Memory, raw: &Cube) -> Result<Option<Cube>, NoMemory>
     requires { IsWellNumbered raw.now }
     ensures { IfOk result (Outcome raw.now) }
 {
@@ -58,10 +63,19 @@ fn outcome_of(alloc: Global, raw: &Cube) -> Result<Option<Cube>, NoMemory>
     match solved(alloc, count, &raw.basic)? {
         Some(form) => {
             let grouped = group(alloc, raw, &form)?;
-            eliminated(alloc, grouped)
+            eliminated(alloc, memory, grouped)
         }
         None => Ok(None),
     }
+}
+
+/// The same as `reduce`, but for parts that are remembered.
+pub fn reduce_by(alloc: Global, memory: &mut Memory, raw: &Cube) -> Result<Option<Cube>, NoMemory>
+    requires { IsWellNumbered raw.now }
+    ensures outcome { IfOk result (Outcome raw.now) }
+    ensures over { IfOk result (λ found. IfSome found (λ cube. (cube.free ≡ raw.now.free) × IsWellNumbered cube)) }
+{
+    outcome_of(alloc, memory, raw)
 }
 
 /// A reduced cube that means the same, or none where the cube has no solution.
@@ -74,5 +88,5 @@ pub fn reduce(alloc: Global, raw: &Cube) -> Result<Option<Cube>, NoMemory>
     ensures none { IfOk result (λ found. (σ : Signature) → CubeFits σ raw.now → (found ≡ None) ↔ ((e : Valuation σ) → ¬ CubeHolds e raw.now)) }
     ensures symbols { IfOk result (λ found. IfSome found (λ cube. All (Contains (cube_symbols raw.now)) (cube_symbols cube))) }
 {
-    outcome_of(alloc, raw)
+    outcome_of(alloc, &mut Memory::new(alloc), raw)
 }

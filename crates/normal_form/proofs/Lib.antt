@@ -1,3 +1,4 @@
+pub mod Remembered
 pub mod Continuing
 pub mod NormLists
 pub mod Quantified

@@ -12,7 +12,8 @@ ghost use Rattle.flat_form.specs.Reduced.{IsReduced};
 ghost use Rattle.flat_form.specs.Symbols.{norm_symbols, cubes_symbols};
 ghost use Rattle.step_facts.specs.Lists.{TakesSteps, IsJoined, IsPlain, PlainLists};
 
-use crate::operations::{and, exists, not};
+use crate::memory::Memory;
+use crate::operations::{and_by, exists_by, not_by};
 use crate::taking::take;
 use flat_form::{Basic, Cube, Cubes, Normal, Normals, Parts};
 use lists::{Copied, NoMemory};
@@ -45,12 +46,12 @@ impl Engine for PlainEngine {
     ghost gives = { IsPlain };
 
     fn solve(&mut self, alloc: Global, free: usize, n: &Normal) -> Result<Cubes, NoMemory> {
-        plain(alloc, free, n)
+        plain(alloc, &mut Memory::new(alloc), free, n)
     }
 }
 
 // The list of the atoms alone, over so many free variables.
-fn first(alloc: Global, free: usize, basic: &Basic) -> Result<Cubes, NoMemory>
+fn first(alloc: Global, memory: &mut Memory, free: usize, basic: &Basic) -> Result<Cubes, NoMemory>
     requires { BasicOver free basic.now }
     ensures over { IfOk result (CubesOver free) }
     ensures takes { IfOk result (TakesSteps [] (record { free = free; outer = 0; basic = basic.now; parts = [] } ∷ [])) }
@@ -62,13 +63,19 @@ fn first(alloc: Global, free: usize, basic: &Basic) -> Result<Cubes, NoMemory>
         parts: Parts::new(alloc),
     };
     let mut out = Cubes::new(alloc);
-    take(alloc, &mut out, &raw)?;
+    take(alloc, memory, &mut out, &raw)?;
     Ok(out)
 }
 
 // The list, joined with that of each part.
 #[cycle(plain)]
-fn with_parts(alloc: Global, free: usize, first: Cubes, parts: &Normals) -> Result<Cubes, NoMemory>
+fn with_parts(
+    alloc: Global,
+    memory: &mut Memory,
+    free: usize,
+    first: Cubes,
+    parts: &Normals,
+) -> Result<Cubes, NoMemory>
     requires first { CubesOver free first }
     requires parts { NormsOver free (norms_of parts.now) }
     ensures over { IfOk result (CubesOver free) }
@@ -76,15 +83,15 @@ fn with_parts(alloc: Global, free: usize, first: Cubes, parts: &Normals) -> Resu
 {
     let mut all = first;
     for i in 0..parts.len() {
-        let list = plain(alloc, free, parts.get(i))?;
-        all = and(alloc, &all, &list)?;
+        let list = plain(alloc, memory, free, parts.get(i))?;
+        all = and_by(alloc, memory, &all, &list)?;
     }
     Ok(all)
 }
 
 // The list of the negated conjunction, from the inside out.
 #[cycle(plain)]
-fn plain(alloc: Global, free: usize, n: &Normal) -> Result<Cubes, NoMemory>
+fn plain(alloc: Global, memory: &mut Memory, free: usize, n: &Normal) -> Result<Cubes, NoMemory>
     requires { NormOver free (norm_of n.now) }
     ensures over { IfOk result (CubesOver free) }
     ensures exactly { IfOk result (IsPlain free (norm_of n.now)) }
@@ -92,8 +99,8 @@ fn plain(alloc: Global, free: usize, n: &Normal) -> Result<Cubes, NoMemory>
     let Some(count) = free.checked_add(n.bound) else {
         return Err(NoMemory);
     };
-    let first = first(alloc, count, &n.basic)?;
-    let all = with_parts(alloc, count, first, &n.parts)?;
-    let shut = exists(alloc, n.bound, &all)?;
-    not(alloc, free, &shut)
+    let first = first(alloc, memory, count, &n.basic)?;
+    let all = with_parts(alloc, memory, count, first, &n.parts)?;
+    let shut = exists_by(alloc, memory, n.bound, &all)?;
+    not_by(alloc, memory, free, &shut)
 }

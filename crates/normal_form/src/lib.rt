@@ -2,6 +2,7 @@
 #![tactic(auto)]
 
 mod engine;
+mod memory;
 mod operations;
 mod raws;
 mod taking;

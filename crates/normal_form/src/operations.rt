@@ -11,11 +11,30 @@ ghost use Rattle.flat_form.specs.Reduced.{IsReduced};
 ghost use Rattle.flat_form.specs.Symbols.{CubesFit, cubes_symbols};
 ghost use Rattle.step_facts.specs.Lists.{KeepsFirst, IsAnd, IsOr, IsNot, IsExists};
 
+use crate::memory::Memory;
 use crate::raws::{deny, open};
 use crate::taking::{push_new, take, take_all, take_joined};
 use flat_form::{Basic, Cube, Cubes, Parts};
 use lists::{Copied, NoMemory};
 use std::alloc::Global;
+
+// The list of the joins of each cube of the one list with each of the other, but for joins that are remembered.
+pub(crate) fn and_by(
+    alloc: Global,
+    memory: &mut Memory,
+    a: &Cubes,
+    b: &Cubes,
+) -> Result<Cubes, NoMemory>
+    requires { (n : ℕ) × CubesOver n a.now × CubesOver n b.now }
+    ensures over { IfOk result (λ out. (n : ℕ) → CubesOver n a.now → CubesOver n b.now → CubesOver n out) }
+    ensures exactly { IfOk result (IsAnd a.now b.now) }
+{
+    let mut out = Cubes::new(alloc);
+    for one in a.as_slice() {
+        take_joined(alloc, memory, &mut out, one, b.as_slice())?;
+    }
+    Ok(out)
+}
 
 /// A list of reduced cubes of which one holds exactly where one of each list does.
 pub fn and(alloc: Global, a: &Cubes, b: &Cubes) -> Result<Cubes, NoMemory>
@@ -27,11 +46,7 @@ pub fn and(alloc: Global, a: &Cubes, b: &Cubes) -> Result<Cubes, NoMemory>
     ensures means { IfOk result (λ out. (σ : Signature) (e : Valuation σ) → CubesFit σ a.now → CubesFit σ b.now
         → SomeHolds e out ↔ (SomeHolds e a.now × SomeHolds e b.now)) }
 {
-    let mut out = Cubes::new(alloc);
-    for one in a.as_slice() {
-        take_joined(alloc, &mut out, one, b.as_slice())?;
-    }
-    Ok(out)
+    and_by(alloc, &mut Memory::new(alloc), a, b)
 }
 
 // Puts each cube last, unless it is one of those so far.
@@ -72,6 +87,26 @@ fn everywhere(alloc: Global, free: usize) -> Result<Cubes, NoMemory>
     Ok(out)
 }
 
+// The list of the negation, but for joins that are remembered.
+pub(crate) fn not_by(
+    alloc: Global,
+    memory: &mut Memory,
+    free: usize,
+    a: &Cubes,
+) -> Result<Cubes, NoMemory>
+    requires { CubesOver free a.now }
+    ensures over { IfOk result (CubesOver free) }
+    ensures exactly { IfOk result (IsNot free a.now) }
+{
+    let mut out = everywhere(alloc, free)?;
+    for cube in a.as_slice() {
+        let raws = deny(alloc, cube)?;
+        let negation = take_all(alloc, memory, raws.as_slice())?;
+        out = and_by(alloc, memory, &out, &negation)?;
+    }
+    Ok(out)
+}
+
 /// A list of reduced cubes of which one holds exactly where no cube of the list does. They are over `free` variables.
 pub fn not(alloc: Global, free: usize, a: &Cubes) -> Result<Cubes, NoMemory>
     requires { CubesOver free a.now }
@@ -82,11 +117,24 @@ pub fn not(alloc: Global, free: usize, a: &Cubes) -> Result<Cubes, NoMemory>
     ensures means { IfOk result (λ out. (σ : Signature) (e : Valuation σ) → CubesFit σ a.now → All IsReduced a.now
         → SomeHolds e out ↔ (¬ SomeHolds e a.now)) }
 {
-    let mut out = everywhere(alloc, free)?;
+    not_by(alloc, &mut Memory::new(alloc), free, a)
+}
+
+// The list with its last so many variables quantified, but for parts that are remembered.
+pub(crate) fn exists_by(
+    alloc: Global,
+    memory: &mut Memory,
+    quantified: usize,
+    a: &Cubes,
+) -> Result<Cubes, NoMemory>
+    requires { All (λ (cube : Cube). (quantified ≤ cube.free) × IsWellNumbered cube) a.now }
+    ensures over { IfOk result (λ out. (n : ℕ) → CubesOver n a.now → CubesOver (n - quantified) out) }
+    ensures exactly { IfOk result (IsExists quantified a.now) }
+{
+    let mut out = Cubes::new(alloc);
     for cube in a.as_slice() {
-        let raws = deny(alloc, cube)?;
-        let negation = take_all(alloc, raws.as_slice())?;
-        out = and(alloc, &out, &negation)?;
+        let raw = open(alloc, quantified, cube)?;
+        take(alloc, memory, &mut out, &raw)?;
     }
     Ok(out)
 }
@@ -102,10 +150,5 @@ pub fn exists(alloc: Global, quantified: usize, a: &Cubes) -> Result<Cubes, NoMe
     ensures means { IfOk result (λ out. (σ : Signature) (n : ℕ) (e : Valuation σ) → CubesFit σ a.now → CubesOver n a.now
         → SomeHolds e out ↔ Exists (λ (d : Valuation σ). Extends (n - quantified) e d × SomeHolds d a.now)) }
 {
-    let mut out = Cubes::new(alloc);
-    for cube in a.as_slice() {
-        let raw = open(alloc, quantified, cube)?;
-        take(alloc, &mut out, &raw)?;
-    }
-    Ok(out)
+    exists_by(alloc, &mut Memory::new(alloc), quantified, a)
 }

@@ -1,15 +1,15 @@
 //! The steps, taken on raw cubes one after the other.
-ghost use Rattle.std.specs.Prelude.{◌≡◌, ◌∷◌, [], ◌++◌, ℕ, map, All, Contains, IfOk, OnOk, IsTrue, ◌↔◌};
+ghost use Rattle.std.specs.Prelude.{◌≡◌, ◌∷◌, [], ◌++◌, ℕ, map, slice_get, Some, All, Contains, IfOk, OnOk, IsTrue, ◌↔◌};
 ghost use Rattle.flat_form.specs.declared.cube.Cube.{Cube};
 ghost use Rattle.flat_form.specs.Numbering.{IsWellNumbered, CubesOver};
 ghost use Rattle.flat_form.specs.Raws.{joined};
+ghost use Rattle.normal_form.specs.Remembered.{KeepsAll};
 ghost use Rattle.normal_form.specs.Taking.{Continues, KeepsOne};
 ghost use Rattle.step_facts.specs.Lists.{TakesSteps};
 
-use crate::raws::join;
-use cube_reduction::reduce;
+use crate::memory::Memory;
 use flat_form::{Cube, Cubes, is_same_cube};
-use lists::NoMemory;
+use lists::{Copied, NoMemory};
 use std::alloc::Global;
 
 // Whether the cube is one of these.
@@ -34,34 +34,72 @@ pub(crate) fn push_new(cubes: &mut Cubes, cube: Cube) -> Result<(), NoMemory>
     cubes.push(cube)
 }
 
+// A copy of the cube stands last, unless it is one of those so far.
+fn push_copy(alloc: Global, cubes: &mut Cubes, cube: &Cube) -> Result<(), NoMemory>
+    ensures { OnOk result (KeepsOne cubes.old cube.now cubes.new) }
+{
+    if is_among(cubes.as_slice(), cube) {
+        return Ok(());
+    }
+    cubes.push(cube.copy(alloc)?)
+}
+
 /// Takes the steps on the raw cube. What they come to stands last, unless it is one of those so far.
-pub(crate) fn take(alloc: Global, out: &mut Cubes, raw: &Cube) -> Result<(), NoMemory>
+pub(crate) fn take(
+    alloc: Global,
+    memory: &mut Memory,
+    out: &mut Cubes,
+    raw: &Cube,
+) -> Result<(), NoMemory>
     requires over { IsWellNumbered raw.now }
     ensures over { OnOk result (CubesOver raw.now.free out.old → CubesOver raw.now.free out.new) }
     ensures takes { OnOk result (Continues out.old (raw.now ∷ []) out.new) }
 {
-    match reduce(alloc, raw)? {
+    match memory.reduce(alloc, raw)? {
         Some(cube) => push_new(out, cube),
         None => Ok(()),
     }
 }
 
 /// Takes the steps on each of the raw cubes.
-pub(crate) fn take_all(alloc: Global, raws: &[Cube]) -> Result<Cubes, NoMemory>
+pub(crate) fn take_all(alloc: Global, memory: &mut Memory, raws: &[Cube]) -> Result<Cubes, NoMemory>
     requires over { All IsWellNumbered raws.now }
     ensures over { IfOk result (λ out. (n : ℕ) → CubesOver n raws.now → CubesOver n out) }
     ensures takes { IfOk result (TakesSteps [] raws.now) }
 {
     let mut out = Cubes::new(alloc);
     for raw in raws {
-        take(alloc, &mut out, raw)?;
+        take(alloc, memory, &mut out, raw)?;
     }
     Ok(out)
+}
+
+// Takes the steps on the join of the cube, which stands at a place of the memory, with the other.
+fn take_join(
+    alloc: Global,
+    memory: &mut Memory,
+    out: &mut Cubes,
+    left: usize,
+    one: &Cube,
+    other: &Cube,
+) -> Result<(), NoMemory>
+    requires left { slice_get memory.old left ≡ Some one.now }
+    requires over { IsWellNumbered (joined one.now other.now) }
+    ensures kept { KeepsAll memory.old memory.new }
+    ensures over { OnOk result (CubesOver one.now.free out.old → CubesOver one.now.free out.new) }
+    ensures takes { OnOk result (Continues out.old (joined one.now other.now ∷ []) out.new) }
+{
+    let right = memory.place_of(alloc, other)?;
+    match memory.join(alloc, left, one, right, other)? {
+        Some(place) => push_copy(alloc, out, memory.get(place)),
+        None => Ok(()),
+    }
 }
 
 /// Takes the steps on the cube joined with each of the others.
 pub(crate) fn take_joined(
     alloc: Global,
+    memory: &mut Memory,
     out: &mut Cubes,
     one: &Cube,
     others: &[Cube],
@@ -71,9 +109,9 @@ pub(crate) fn take_joined(
     ensures over { OnOk result (CubesOver one.now.free out.old → CubesOver one.now.free out.new) }
     ensures takes { OnOk result (Continues out.old (map (joined one.now) others.now) out.new) }
 {
+    let left = memory.place_of(alloc, one)?;
     for other in others {
-        let raw = join(alloc, one, other)?;
-        take(alloc, out, &raw)?;
+        take_join(alloc, memory, out, left, one, other)?;
     }
     Ok(())
 }

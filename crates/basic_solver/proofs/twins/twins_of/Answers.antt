@@ -7,12 +7,12 @@ use Rattle.basic_solver.proofs.twins.twins_of.Goals as goal
 
 pub loop-i-init : goal.loop-i-init
 loop-i-init c =
-    subst (λ (z : List ℕ). IsTwinning c.args.names.now c.args.atoms.now (get is_same_key c.new-table.result) z 0) (sym c.new-twins.ensures.items)
-    (twinning_first c.args.names.now c.args.atoms.now (get is_same_key c.new-table.result) (λ q. ap (lookup (is_same_key q)) c.new-table.ensures.empty))
+    subst (λ (z : List ℕ). IsTwinning c.args.names.now c.args.atoms.now (get is_same_key c.in-Ok.table) z 0) (sym c.new-twins.ensures.items)
+    (twinning_first c.args.names.now c.args.atoms.now (get is_same_key c.in-Ok.table) (λ q. ap (lookup (is_same_key q)) c.in-Ok.ensures.empty))
 
 pub loop-i-preserved : goal.loop-i-preserved
 loop-i-preserved c =
-    subst (λ (z : List ℕ). IsTwinning c.args.names.now c.args.atoms.now (get is_same_key c.twin.new.table) z (c.loop-i.i + 1)) (sym c.in-Ok.ensures.items)
+    subst (λ (z : List ℕ). IsTwinning c.args.names.now c.args.atoms.now (get is_same_key c.twin.new.table) z (c.loop-i.i + 1)) (sym c.in-Ok-push.ensures.items)
     (twinning_more c.args.names.now c.args.atoms.now (get is_same_key c.loop-i.table) (get is_same_key c.twin.new.table) c.loop-i.twins.items c.loop-i.i c.in_ok-j.j
     c.get.result.now c.get.ensures c.loop-i.invariant c.in_ok-j.ensures)
 

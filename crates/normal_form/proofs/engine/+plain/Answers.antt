@@ -15,14 +15,14 @@ plain-with_parts-requires t c = (
   (c.in_ok-first.ensures.over, (inside_over c.args.free c.in-Some.count c.args.n.now c.in-Some.ensures.1 c.requires).1),
 )
 
-pub plain-not-requires : goal.plain-not-requires
-plain-not-requires t c =
+pub plain-not_by-requires : goal.plain-not_by-requires
+plain-not_by-requires t c =
     shut_over c.args.free c.in-Some.count _ c.in_ok-shut.shut c.in-Some.ensures.1 (c.in_ok-shut.ensures.over c.in-Some.count c.in_ok-all.ensures.over)
 
 pub plain-returns-clause-exactly : goal.plain-returns-clause-exactly
 plain-returns-clause-exactly t c =
-    IfOk-weaker c.not.result (IsNot c.args.free c.in_ok-shut.shut) _ (λ out none. plain_made c.args.free c.in-Some.count c.args.n.now c.in_ok-first.first
-    c.in_ok-all.all c.in_ok-shut.shut out c.in-Some.ensures.1 c.in_ok-first.ensures.takes c.in_ok-all.ensures.joined c.in_ok-shut.ensures.exactly none) c.not.ensures.exactly
+    IfOk-weaker c.not_by.result (IsNot c.args.free c.in_ok-shut.shut) _ (λ out none. plain_made c.args.free c.in-Some.count c.args.n.now c.in_ok-first.first
+    c.in_ok-all.all c.in_ok-shut.shut out c.in-Some.ensures.1 c.in_ok-first.ensures.takes c.in_ok-all.ensures.joined c.in_ok-shut.ensures.exactly none) c.not_by.ensures.exactly
 
 pub with_parts-loop-i-init : goal.with_parts-loop-i-init
 with_parts-loop-i-init t c = record { over = c.requires.first; joins = joins_first c.args.free c.args.first c.args.parts.now }

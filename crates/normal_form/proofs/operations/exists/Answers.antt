@@ -1,42 +1,23 @@
-use Rattle.std.proofs.Common.{ℕ, ◌+◌, ◌-◌, List, [], ◌∷◌, refl, sym, ap, ◌∙◌, map, drop, arith}
-use Rattle.std.proofs.lemmas.List.Elements.{All-contains}
-use Rattle.flat_form.specs.declared.cube.Cube.{Cube}
-use Rattle.flat_form.specs.Raws.{opened}
+use Rattle.std.proofs.lemmas.Result.{IfOk-weaker}
 use Rattle.step_facts.specs.Lists.{IsExists}
 use Rattle.list_facts.proofs.Symbols.{lists_have_symbols}
-use Rattle.list_facts.proofs.Takes.{Over}
-use Rattle.normal_form.proofs.Continuing.{further, ended, over_more}
 use Rattle.normal_form.proofs.Quantified.{opened_reduced, opened_list_means}
-use Rattle.normal_form.proofs.Walking.{at_item, behind_last, item_in}
 use Rattle.normal_form.proofs.operations.exists.Goals as goal
 
-pub loop-cube-preserved : goal.loop-cube-preserved
-loop-cube-preserved c =
-    let cubes = c.args.a.now in
-    let cube = c.cube-item.result in
-    let quantified = c.args.quantified in record {
-      over = λ n over.
-          let at : Over n cube = All-contains (Over n) cubes cube over (item_in _ _ c.loop-cube.cube-index _ c.as_slice-cube-items.ensures (omega arith) c.cube-item.is) in
-          over_more (n - quantified) c.in_ok-raw.raw.free c.loop-cube.out c.take.new.out
-          (ap (λ (z : Cube). z.free) c.in_ok-raw.ensures ∙ ap (λ (k : ℕ). k - quantified) at.0) c.in_ok-take.ensures.over (c.loop-cube.invariant.over n over);
-      takes = further (λ (left : List Cube). map (opened quantified) left) cubes (λ (out : List Cube). IsExists quantified cubes out) c.loop-cube.cube-index
-          c.loop-cube.out c.take.new.out (c.in_ok-raw.raw ∷ []) cube (at_item _ _ _ _ c.as_slice-cube-items.ensures (omega arith) c.cube-item.is)
-          (ap (λ (z : Cube). z ∷ map (opened quantified) (drop (c.loop-cube.cube-index + 1) cubes)) (sym c.in_ok-raw.ensures))
-          c.loop-cube.invariant.takes c.in_ok-take.ensures.takes;
-    }
-
-pub returns : goal.returns
-returns c =
+pub returns-clause-reduced : goal.returns-clause-reduced
+returns-clause-reduced c =
     let cubes = c.args.a.now in
     let quantified = c.args.quantified in
-    let out = c.loop-cube.out in
-    let is : IsExists quantified cubes out =
-    ended (λ (left : List Cube). map (opened quantified) left) cubes (λ (all : List Cube). IsExists quantified cubes all) c.loop-cube.cube-index out
-    (behind_last _ _ _ c.as_slice-cube-items.ensures c.loop-cube-test.false) refl c.loop-cube.invariant.takes in
-    record {
-      over = c.loop-cube.invariant.over;
-      exactly = is;
-      reduced = λ σ n f over. opened_reduced σ n quantified cubes out c.requires f over is;
-      symbols = lists_have_symbols.some quantified cubes out is;
-      means = λ σ n e f over. opened_list_means σ n quantified cubes out e c.requires f over is;
-    }
+    IfOk-weaker c.exists_by.result (IsExists quantified cubes) _ (λ out is σ n f over. opened_reduced σ n quantified cubes out c.requires f over is) c.exists_by.ensures.exactly
+
+pub returns-clause-symbols : goal.returns-clause-symbols
+returns-clause-symbols c =
+    let cubes = c.args.a.now in
+    let quantified = c.args.quantified in
+    IfOk-weaker c.exists_by.result (IsExists quantified cubes) _ (λ out is. lists_have_symbols.some quantified cubes out is) c.exists_by.ensures.exactly
+
+pub returns-clause-means : goal.returns-clause-means
+returns-clause-means c =
+    let cubes = c.args.a.now in
+    let quantified = c.args.quantified in
+    IfOk-weaker c.exists_by.result (IsExists quantified cubes) _ (λ out is σ n e f over. opened_list_means σ n quantified cubes out e c.requires f over is) c.exists_by.ensures.exactly

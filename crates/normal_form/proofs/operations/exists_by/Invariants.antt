@@ -3,7 +3,7 @@ use Rattle.flat_form.specs.declared.cube.Cube.{Cube}
 use Rattle.flat_form.specs.Numbering.{CubesOver}
 use Rattle.flat_form.specs.Raws.{opened}
 use Rattle.step_facts.specs.Lists.{TakesSteps, IsExists}
-use Rattle.normal_form.proofs.operations.exists.Given as goal
+use Rattle.normal_form.proofs.operations.exists_by.Given as goal
 
 abbrev pub invariant-loop-cube : goal.invariant-loop-cube
 invariant-loop-cube l = record {

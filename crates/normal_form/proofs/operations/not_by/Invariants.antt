@@ -2,7 +2,7 @@ use Rattle.std.proofs.Common.{List, drop}
 use Rattle.flat_form.specs.declared.cube.Cube.{Cube}
 use Rattle.flat_form.specs.Numbering.{CubesOver}
 use Rattle.step_facts.specs.Lists.{DeniesEach, IsNot}
-use Rattle.normal_form.proofs.operations.not.Given as goal
+use Rattle.normal_form.proofs.operations.not_by.Given as goal
 
 abbrev pub invariant-loop-cube : goal.invariant-loop-cube
 invariant-loop-cube l = record {

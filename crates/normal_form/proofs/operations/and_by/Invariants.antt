@@ -3,7 +3,7 @@ use Rattle.flat_form.specs.declared.cube.Cube.{Cube}
 use Rattle.flat_form.specs.Numbering.{CubesOver}
 use Rattle.step_facts.specs.Lists.{TakesSteps, IsAnd}
 use Rattle.list_facts.proofs.Lists.{pairs}
-use Rattle.normal_form.proofs.operations.and.Given as goal
+use Rattle.normal_form.proofs.operations.and_by.Given as goal
 
 abbrev pub invariant-loop-one : goal.invariant-loop-one
 invariant-loop-one l = record {
