@@ -26,7 +26,7 @@ impl Reading {
         self.formulas.pop().unwrap_or(Formula::True)
     }
 
-    fn boxed(&mut self) -> Result<Boxed<Formula>, Fail> {
+    fn boxed(&mut self) -> Result<Boxed<Formula>, NoMemory> {
         let formula = self.formula();
         Ok(Boxed::new(self.alloc, formula)?)
     }
@@ -38,12 +38,12 @@ impl Reading {
         }
     }
 
-    fn applied(&mut self, symbol: Symbol, count: usize) -> Result<Term, Fail> {
+    fn applied(&mut self, symbol: Symbol, count: usize) -> Result<Term, NoMemory> {
         let terms = self.arguments(count)?;
         Ok(Term::App(symbol, terms))
     }
 
-    fn arguments(&mut self, count: usize) -> Result<Terms, Fail> {
+    fn arguments(&mut self, count: usize) -> Result<Terms, NoMemory> {
         let mut terms = Terms::new(self.alloc);
         for _ in 0..count {
             let term = self.term();
@@ -53,7 +53,7 @@ impl Reading {
     }
 
     // Reads a letter that is a term.
-    fn read_term(&mut self, letter: u8) -> Result<bool, Fail> {
+    fn read_term(&mut self, letter: u8) -> Result<bool, NoMemory> {
         let term = match letter {
             b'X' => Term::Var(0),
             b'Y' => Term::Var(1),
@@ -68,7 +68,7 @@ impl Reading {
     }
 
     // The atom that a letter begins.
-    fn read_atom(&mut self, letter: u8) -> Result<Option<Formula>, Fail> {
+    fn read_atom(&mut self, letter: u8) -> Result<Option<Formula>, NoMemory> {
         let atom = match letter {
             b't' => Formula::True,
             b'n' => Formula::False,
@@ -83,7 +83,7 @@ impl Reading {
     }
 
     // The formula that a connective begins.
-    fn read_joint(&mut self, letter: u8) -> Result<Formula, Fail> {
+    fn read_joint(&mut self, letter: u8) -> Result<Formula, NoMemory> {
         let left = self.boxed()?;
         let right = self.boxed()?;
         Ok(match letter {
@@ -95,7 +95,7 @@ impl Reading {
     }
 
     // The formula that a negation, a quantifier or a connective begins.
-    fn read_formula(&mut self, letter: u8) -> Result<Formula, Fail> {
+    fn read_formula(&mut self, letter: u8) -> Result<Formula, NoMemory> {
         match letter {
             b'~' => Ok(Formula::Not(self.boxed()?)),
             b'E' => Ok(Formula::Exists(self.variable(), self.boxed()?)),
@@ -105,7 +105,7 @@ impl Reading {
     }
 
     // Reads one letter.
-    fn read(&mut self, letter: u8) -> Result<(), Fail> {
+    fn read(&mut self, letter: u8) -> Result<(), NoMemory> {
         if self.read_term(letter)? {
             return Ok(());
         }
@@ -118,7 +118,7 @@ impl Reading {
     }
 }
 
-fn formula_of(alloc: Global, text: &str) -> Result<Formula, Fail> {
+fn formula_of(alloc: Global, text: &str) -> Result<Formula, NoMemory> {
     let mut reading = Reading {
         alloc,
         terms: Vec::new(alloc),
@@ -254,27 +254,26 @@ fn write_normal(shown: &mut String, normal: &Normal) -> Result<(), AllocError> {
     write!(shown, "}}")
 }
 
-fn normal_of(alloc: Global, formula: &Formula, ranks: &[usize]) -> Result<Normal, Fail> {
+fn normal_of(alloc: Global, formula: &Formula, ranks: &[usize]) -> Result<Normal, NoMemory> {
     let ranks = places(alloc, ranks)?;
     let table = table(alloc)?;
-    let normal = flatten(alloc, formula, &ranks, &table)?;
-    Ok(normal)
+    flatten(alloc, formula, &ranks, &table)
 }
 
-fn shown(alloc: Global, normal: &Normal) -> Result<String, Fail> {
+fn normal_of_text(alloc: Global, text: &str, ranks: &[usize]) -> Result<Normal, NoMemory> {
+    let formula = formula_of(alloc, text)?;
+    normal_of(alloc, &formula, ranks)
+}
+
+fn flattened(alloc: Global, text: &str, ranks: &[usize]) -> Result<String, NoMemory> {
+    let normal = normal_of_text(alloc, text, ranks)?;
     let mut shown = String::new(alloc);
-    write_normal(&mut shown, normal)?;
+    write_normal(&mut shown, &normal)?;
     Ok(shown)
 }
 
-fn flattened(alloc: Global, text: &str, ranks: &[usize]) -> Result<String, Fail> {
-    let formula = formula_of(alloc, text)?;
-    let normal = normal_of(alloc, &formula, ranks)?;
-    shown(alloc, &normal)
-}
-
 // Each text, with its variables numbered from the last to the first, is flattened as expected.
-fn are_flattened(alloc: Global, rows: &[(&str, &str)]) -> Result<bool, Fail> {
+fn are_flattened(alloc: Global, rows: &[(&str, &str)]) -> Result<bool, NoMemory> {
     for (text, expected) in rows {
         let shown = flattened(alloc, text, &[1, 0])?;
         if shown.as_str() != *expected {
@@ -361,18 +360,22 @@ fn one_free_variable_is_number_0(rt: HostRuntime) -> Result<(), Fail> {
     Ok(())
 }
 
+fn finds_its_keys_alone(alloc: Global) -> Result<bool, NoMemory> {
+    let mut table = Solved::new(alloc);
+    table.add(Key::Call(0), Cubes::new(alloc))?;
+    let finds = table.find(&Key::Call(0)).is_some();
+    let others = table.find(&Key::Call(1)).is_some() || table.find(&Key::Win(0, 0)).is_some();
+    Ok(finds && !others)
+}
+
 #[test]
 fn a_table_finds_its_keys_alone(rt: HostRuntime) -> Result<(), Fail> {
-    let mut table = Solved::new(rt.alloc());
-    assert!(rt; table.add(Key::Call(0), Cubes::new(rt.alloc())).is_ok());
-    assert!(rt; table.find(&Key::Call(0)).is_some());
-    assert!(rt; table.find(&Key::Call(1)).is_none());
-    assert!(rt; table.find(&Key::Win(0, 0)).is_none());
+    assert!(rt; finds_its_keys_alone(rt.alloc())?);
     Ok(())
 }
 
 // A formula and `X = X`, joined.
-fn nested(alloc: Global, formula: Formula, to_the_left: bool) -> Result<Formula, Fail> {
+fn nested(alloc: Global, formula: Formula, to_the_left: bool) -> Result<Formula, NoMemory> {
     let nested = Boxed::new(alloc, formula)?;
     let other = Boxed::new(alloc, Formula::Eq(Term::Var(0), Term::Var(0)))?;
     Ok(if to_the_left {
@@ -383,7 +386,7 @@ fn nested(alloc: Global, formula: Formula, to_the_left: bool) -> Result<Formula,
 }
 
 // A thousand conjunctions of `X = X`, nested to the left or to the right.
-fn deep(alloc: Global, to_the_left: bool) -> Result<Formula, Fail> {
+fn conjunctions(alloc: Global, to_the_left: bool) -> Result<Formula, NoMemory> {
     let mut formula = Formula::Eq(Term::Var(0), Term::Var(0));
     for _ in 0..1000 {
         formula = nested(alloc, formula, to_the_left)?;
@@ -392,7 +395,7 @@ fn deep(alloc: Global, to_the_left: bool) -> Result<Formula, Fail> {
 }
 
 // A falsity behind a thousand negations.
-fn negations(alloc: Global) -> Result<Formula, Fail> {
+fn negations(alloc: Global) -> Result<Formula, NoMemory> {
     let mut formula = Formula::False;
     for _ in 0..1000 {
         formula = Formula::Not(Boxed::new(alloc, formula)?);
@@ -400,30 +403,35 @@ fn negations(alloc: Global) -> Result<Formula, Fail> {
     Ok(formula)
 }
 
-// How many atoms and parts the first part has.
-fn sizes(normal: &Normal) -> (usize, usize) {
-    if normal.parts.len() == 0 {
-        return (0, 0);
+fn deep(alloc: Global, number: usize) -> Result<Formula, NoMemory> {
+    match number {
+        0 => conjunctions(alloc, true),
+        1 => conjunctions(alloc, false),
+        _ => negations(alloc),
     }
-    let part = normal.parts.get(0);
-    (part.basic.len(), part.parts.len())
 }
 
-// The sizes of what a formula with one free variable is flattened to.
-fn flattened_sizes(alloc: Global, formula: &Formula) -> Result<(usize, usize), Fail> {
-    let normal = normal_of(alloc, formula, &[0])?;
-    Ok(sizes(&normal))
+// What a deep formula with one free variable is flattened to.
+fn deep_normal(alloc: Global, number: usize) -> Result<Normal, NoMemory> {
+    let formula = deep(alloc, number)?;
+    normal_of(alloc, &formula, &[0])
+}
+
+// How many atoms and parts its first part has.
+fn deep_sizes(alloc: Global, number: usize) -> Result<(usize, usize), NoMemory> {
+    let normal = deep_normal(alloc, number)?;
+    if normal.parts.len() == 0 {
+        return Ok((0, 0));
+    }
+    let part = normal.parts.get(0);
+    Ok((part.basic.len(), part.parts.len()))
 }
 
 #[test]
 fn a_deep_formula_is_flattened(rt: HostRuntime) -> Result<(), Fail> {
-    let alloc = rt.alloc();
-    let left = flattened_sizes(alloc, &deep(alloc, true)?)?;
-    assert_eq!(rt; left, (1001, 0));
-    let right = flattened_sizes(alloc, &deep(alloc, false)?)?;
-    assert_eq!(rt; right, (1001, 0));
-    let negated = flattened_sizes(alloc, &negations(alloc)?)?;
-    assert_eq!(rt; negated, (0, 1));
+    assert_eq!(rt; deep_sizes(rt.alloc(), 0)?, (1001, 0));
+    assert_eq!(rt; deep_sizes(rt.alloc(), 1)?, (1001, 0));
+    assert_eq!(rt; deep_sizes(rt.alloc(), 2)?, (0, 1));
     Ok(())
 }
 

@@ -59,65 +59,102 @@ fn two_parts(alloc: Global, number: usize) -> Result<Formula, NoMemory> {
 }
 
 // What `Debug` writes of a formula.
-fn text_of(alloc: Global, formula: &Formula) -> Result<String, Fail> {
-    let text = format!(in alloc; "{formula:?}")?;
-    Ok(text)
+fn text_of(alloc: Global, formula: &Formula) -> Result<String, NoMemory> {
+    Ok(format!(in alloc; "{formula:?}")?)
 }
 
-// What `Debug` writes of a copy of a formula.
-fn text_of_copy(alloc: Global, formula: &Formula) -> Result<String, Fail> {
-    let copy = formula.copy(alloc)?;
+// What `Debug` writes of a formula of each form.
+fn text_of_form(alloc: Global, number: usize) -> Result<String, NoMemory> {
+    let formula = form(alloc, number)?;
+    text_of(alloc, &formula)
+}
+
+fn copied_form(alloc: Global, number: usize) -> Result<Formula, NoMemory> {
+    let formula = form(alloc, number)?;
+    formula.copy(alloc)
+}
+
+// What `Debug` writes of its copy.
+fn text_of_copy(alloc: Global, number: usize) -> Result<String, NoMemory> {
+    let copy = copied_form(alloc, number)?;
     text_of(alloc, &copy)
-}
-
-// The names `X` and `Y`.
-fn two_names(alloc: Global) -> Result<Names, Fail> {
-    let mut names = Names::new(alloc);
-    names.push(Name::new(String::from_str(alloc, "X")?))?;
-    names.push(Name::new(String::from_str(alloc, "Y")?))?;
-    Ok(names)
-}
-
-#[test]
-fn a_list_of_names_is_copied(rt: HostRuntime) -> Result<(), Fail> {
-    let copy = two_names(rt.alloc())?.copy(rt.alloc())?;
-    let mut texts = Vec::new(rt.alloc());
-    for name in copy.as_slice() {
-        texts.push(name.as_str())?;
-    }
-    assert_eq!(rt; texts.as_slice(), ["X", "Y"].as_slice());
-    Ok(())
-}
-
-// A variable and an application, copied.
-fn copied_terms(alloc: Global) -> Result<Terms, NoMemory> {
-    let mut terms = variables(alloc, &[3])?;
-    terms.push(applied(alloc, &[7])?)?;
-    terms.copy(alloc)
-}
-
-#[test]
-fn a_list_of_terms_grows_and_is_copied(rt: HostRuntime) -> Result<(), Fail> {
-    let copy = copied_terms(rt.alloc())?;
-    assert_eq!(rt; copy.len(), 2);
-    if copy.len() == 2 {
-        assert!(rt; matches!(copy.get(0), Term::Var(3)));
-        let second = copy.get(1);
-        assert!(rt;
-            matches!(second, Term::App(Symbol::Named(1), arguments) if arguments.len() == 1)
-        );
-    }
-    Ok(())
 }
 
 #[test]
 fn a_formula_of_each_form_is_copied(rt: HostRuntime) -> Result<(), Fail> {
     for number in 0..FORMS {
-        let formula = form(rt.alloc(), number)?;
-        let text = text_of(rt.alloc(), &formula)?;
-        let copied = text_of_copy(rt.alloc(), &formula)?;
+        let text = text_of_form(rt.alloc(), number)?;
+        let copied = text_of_copy(rt.alloc(), number)?;
         assert_eq!(rt; copied.as_str(), text.as_str());
     }
+    Ok(())
+}
+
+fn named(alloc: Global, text: &str) -> Result<Name, NoMemory> {
+    Ok(Name::new(String::from_str(alloc, text)?))
+}
+
+// The names `X` and `Y`.
+fn two_names(alloc: Global) -> Result<Names, NoMemory> {
+    let mut names = Names::new(alloc);
+    names.push(named(alloc, "X")?)?;
+    names.push(named(alloc, "Y")?)?;
+    Ok(names)
+}
+
+fn copied_names(alloc: Global) -> Result<Names, NoMemory> {
+    let names = two_names(alloc)?;
+    names.copy(alloc)
+}
+
+// The names, each with a blank behind it.
+fn text_of_names(alloc: Global, names: &Names) -> Result<String, NoMemory> {
+    let mut text = String::new(alloc);
+    for name in names.as_slice() {
+        text.push_str(name.as_str())?;
+        text.push_str(" ")?;
+    }
+    Ok(text)
+}
+
+fn text_of_copied_names(alloc: Global) -> Result<String, NoMemory> {
+    let copy = copied_names(alloc)?;
+    text_of_names(alloc, &copy)
+}
+
+#[test]
+fn a_list_of_names_is_copied(rt: HostRuntime) -> Result<(), Fail> {
+    let text = text_of_copied_names(rt.alloc())?;
+    assert_eq!(rt; text.as_str(), "X Y ");
+    Ok(())
+}
+
+// A variable and an application.
+fn two_terms(alloc: Global) -> Result<Terms, NoMemory> {
+    let mut terms = variables(alloc, &[3])?;
+    terms.push(applied(alloc, &[7])?)?;
+    Ok(terms)
+}
+
+fn are_two_terms(terms: &Terms) -> bool {
+    terms.len() == 2
+        && matches!(terms.get(0), Term::Var(3))
+        && matches!(terms.get(1), Term::App(Symbol::Named(1), xs) if xs.len() == 1)
+}
+
+fn copied_terms(alloc: Global) -> Result<Terms, NoMemory> {
+    let terms = two_terms(alloc)?;
+    terms.copy(alloc)
+}
+
+fn terms_are_copied(alloc: Global) -> Result<bool, NoMemory> {
+    let copy = copied_terms(alloc)?;
+    Ok(are_two_terms(&copy))
+}
+
+#[test]
+fn a_list_of_terms_grows_and_is_copied(rt: HostRuntime) -> Result<(), Fail> {
+    assert!(rt; terms_are_copied(rt.alloc())?);
     Ok(())
 }
 
@@ -140,33 +177,39 @@ fn quantifiers(alloc: Global, count: usize) -> Result<Formula, NoMemory> {
 }
 
 // Deeper than any formula that a text within the limits gives. The checked build of `rt try` has too little stack for it.
+fn deep_copy(alloc: Global) -> Result<Formula, NoMemory> {
+    let formula = negations(alloc, 2500)?;
+    formula.copy(alloc)
+}
+
+fn is_copied_deep(alloc: Global) -> Result<bool, NoMemory> {
+    let copy = deep_copy(alloc)?;
+    Ok(matches!(copy, Formula::Not(_)))
+}
+
 #[test]
 fn a_deep_formula_is_copied(rt: HostRuntime) -> Result<(), Fail> {
-    let formula = negations(rt.alloc(), 2500)?;
-    let copy = formula.copy(rt.alloc())?;
-    assert!(rt; matches!(copy, Formula::Not(_)));
+    assert!(rt; is_copied_deep(rt.alloc())?);
     Ok(())
-}
-
-#[test]
-fn a_deep_formula_is_walked(rt: HostRuntime) -> Result<(), Fail> {
-    let formula = quantifiers(rt.alloc(), 2500)?;
-    assert_eq!(rt; free_variables(rt.alloc(), &formula)?.len(), 0);
-    assert_eq!(rt; indexes(rt.alloc(), &formula)?.len(), 0);
-    Ok(())
-}
-
-// The formula that says that there is a Y with X = f(Y), where X is 1 and Y is 0.
-fn has_argument(alloc: Global) -> Result<Formula, Fail> {
-    let applied = Term::App(Symbol::Named(0), variables(alloc, &[0])?);
-    let body = Formula::Eq(Term::Var(1), applied);
-    Ok(Formula::Exists(0, boxed(alloc, body)?))
 }
 
 // Whether these are the free variables of the formula, in this order.
-fn has_free(alloc: Global, formula: &Formula, wanted: &[usize]) -> Result<bool, NoMemory> {
+fn is_free_in(alloc: Global, formula: &Formula, wanted: &[usize]) -> Result<bool, NoMemory> {
     let found = free_variables(alloc, formula)?;
     Ok(found.as_slice() == wanted)
+}
+
+// Whether these are the indexes of its further symbols, in this order.
+fn is_index_in(alloc: Global, formula: &Formula, wanted: &[u64]) -> Result<bool, NoMemory> {
+    let found = indexes(alloc, formula)?;
+    Ok(found.as_slice() == wanted)
+}
+
+// The formula that says that there is a Y with X = f(Y), where X is 1 and Y is 0.
+fn has_argument(alloc: Global) -> Result<Formula, NoMemory> {
+    let applied = Term::App(Symbol::Named(0), variables(alloc, &[0])?);
+    let body = Formula::Eq(Term::Var(1), applied);
+    Ok(Formula::Exists(0, boxed(alloc, body)?))
 }
 
 // The formula that all X are such that Y is finite, where X is 3 and Y is 4.
@@ -174,11 +217,38 @@ fn binds_another(alloc: Global) -> Result<Formula, NoMemory> {
     Ok(Formula::Forall(3, boxed(alloc, finite(4))?))
 }
 
+// A formula that is walked.
+fn walked(alloc: Global, number: usize) -> Result<Formula, NoMemory> {
+    match number {
+        0 => quantifiers(alloc, 2500),
+        1 => has_argument(alloc),
+        2 => binds_another(alloc),
+        3 => bound_and_free(alloc),
+        _ => three_indexes(alloc),
+    }
+}
+
+fn has_free(alloc: Global, number: usize, wanted: &[usize]) -> Result<bool, NoMemory> {
+    let formula = walked(alloc, number)?;
+    is_free_in(alloc, &formula, wanted)
+}
+
+fn has_indexes(alloc: Global, number: usize, wanted: &[u64]) -> Result<bool, NoMemory> {
+    let formula = walked(alloc, number)?;
+    is_index_in(alloc, &formula, wanted)
+}
+
+#[test]
+fn a_deep_formula_is_walked(rt: HostRuntime) -> Result<(), Fail> {
+    assert!(rt; has_free(rt.alloc(), 0, &[])?);
+    assert!(rt; has_indexes(rt.alloc(), 0, &[])?);
+    Ok(())
+}
+
 #[test]
 fn a_variable_that_is_bound_is_not_free(rt: HostRuntime) -> Result<(), Fail> {
-    let alloc = rt.alloc();
-    assert!(rt; has_free(alloc, &has_argument(alloc)?, &[1])?);
-    assert!(rt; has_free(alloc, &binds_another(alloc)?, &[4])?);
+    assert!(rt; has_free(rt.alloc(), 1, &[1])?);
+    assert!(rt; has_free(rt.alloc(), 2, &[4])?);
     Ok(())
 }
 
@@ -201,8 +271,7 @@ fn bound_and_free(alloc: Global) -> Result<Formula, NoMemory> {
 
 #[test]
 fn free_variables_stand_once_by_first_occurrence(rt: HostRuntime) -> Result<(), Fail> {
-    let alloc = rt.alloc();
-    assert!(rt; has_free(alloc, &bound_and_free(alloc)?, &[7, 5])?);
+    assert!(rt; has_free(rt.alloc(), 3, &[7, 5])?);
     Ok(())
 }
 
@@ -228,40 +297,52 @@ fn three_indexes(alloc: Global) -> Result<Formula, NoMemory> {
 
 #[test]
 fn indexes_stand_once_by_first_occurrence(rt: HostRuntime) -> Result<(), Fail> {
-    let alloc = rt.alloc();
-    assert_eq!(rt; indexes(alloc, &has_argument(alloc)?)?.len(), 0);
-    let listed = indexes(alloc, &three_indexes(alloc)?)?;
-    assert_eq!(rt; listed.as_slice(), [9, 2, 5].as_slice());
+    assert!(rt; has_indexes(rt.alloc(), 1, &[])?);
+    assert!(rt; has_indexes(rt.alloc(), 4, &[9, 2, 5])?);
     Ok(())
 }
 
-fn statement(alloc: Global) -> Result<Statement, Fail> {
+fn statement(alloc: Global) -> Result<Statement, NoMemory> {
     Ok(Statement {
         names: two_names(alloc)?,
         body: finite(1),
     })
 }
 
-// A list of one statement, copied twice.
-fn copied_statements(alloc: Global) -> Result<Statements, Fail> {
-    let statement = statement(alloc)?.copy(alloc)?;
+fn copied_statement(alloc: Global) -> Result<Statement, NoMemory> {
+    let statement = statement(alloc)?;
+    statement.copy(alloc)
+}
+
+// A list of one statement that is a copy.
+fn one_statement(alloc: Global) -> Result<Statements, NoMemory> {
+    let statement = copied_statement(alloc)?;
     let mut statements = Statements::new(alloc);
     statements.push(statement)?;
-    Ok(statements.copy(alloc)?)
+    Ok(statements)
+}
+
+fn copied_statements(alloc: Global) -> Result<Statements, NoMemory> {
+    let statements = one_statement(alloc)?;
+    statements.copy(alloc)
+}
+
+fn is_statement(statement: &Statement) -> bool {
+    statement.names.len() == 2 && matches!(statement.body, Formula::Finite(Term::Var(1)))
+}
+
+fn statements_are_copied(alloc: Global) -> Result<bool, NoMemory> {
+    let copy = copied_statements(alloc)?;
+    Ok(copy.len() == 1 && is_statement(copy.get(0)))
 }
 
 #[test]
 fn a_list_of_statements_grows_and_is_copied(rt: HostRuntime) -> Result<(), Fail> {
-    let copy = copied_statements(rt.alloc())?;
-    assert_eq!(rt; copy.len(), 1);
-    if copy.len() == 1 {
-        assert_eq!(rt; copy.get(0).names.len(), 2);
-        assert!(rt; matches!(copy.get(0).body, Formula::Finite(Term::Var(1))));
-    }
+    assert!(rt; statements_are_copied(rt.alloc())?);
     Ok(())
 }
 
-fn pred(alloc: Global) -> Result<Pred, Fail> {
+fn pred(alloc: Global) -> Result<Pred, NoMemory> {
     Ok(Pred {
         place: 4,
         params: 1,
@@ -270,36 +351,61 @@ fn pred(alloc: Global) -> Result<Pred, Fail> {
     })
 }
 
-// A list of one predicate, copied twice.
-fn copied_preds(alloc: Global) -> Result<Preds, Fail> {
-    let pred = pred(alloc)?.copy(alloc)?;
+fn copied_pred(alloc: Global) -> Result<Pred, NoMemory> {
+    let pred = pred(alloc)?;
+    pred.copy(alloc)
+}
+
+// A list of one predicate that is a copy.
+fn one_pred(alloc: Global) -> Result<Preds, NoMemory> {
+    let pred = copied_pred(alloc)?;
     let mut preds = Preds::new(alloc);
     preds.push(pred)?;
-    Ok(preds.copy(alloc)?)
+    Ok(preds)
+}
+
+fn copied_preds(alloc: Global) -> Result<Preds, NoMemory> {
+    let preds = one_pred(alloc)?;
+    preds.copy(alloc)
+}
+
+fn is_pred(pred: &Pred) -> bool {
+    (pred.place, pred.params) == (4, 1)
+        && pred.names.len() == 2
+        && matches!(pred.body, Formula::Finite(Term::Var(0)))
+}
+
+fn preds_are_copied(alloc: Global) -> Result<bool, NoMemory> {
+    let copy = copied_preds(alloc)?;
+    Ok(copy.len() == 1 && is_pred(copy.get(0)))
 }
 
 #[test]
 fn a_list_of_predicates_grows_and_is_copied(rt: HostRuntime) -> Result<(), Fail> {
-    let copy = copied_preds(rt.alloc())?;
-    assert_eq!(rt; copy.len(), 1);
-    if copy.len() == 1 {
-        assert_eq!(rt; (copy.get(0).place, copy.get(0).params), (4, 1));
-        assert_eq!(rt; copy.get(0).names.len(), 2);
-        assert!(rt; matches!(copy.get(0).body, Formula::Finite(Term::Var(0))));
-    }
+    assert!(rt; preds_are_copied(rt.alloc())?);
     Ok(())
+}
+
+fn one_symbol(alloc: Global) -> Result<Signature, NoMemory> {
+    let mut signature = Signature::new(alloc);
+    match signature.declare("f", Kind::Symbol, 1) {
+        Ok(0) => Ok(signature),
+        _ => Err(NoMemory),
+    }
+}
+
+fn text_of_file(alloc: Global) -> Result<String, NoMemory> {
+    let file = File {
+        signature: one_symbol(alloc)?,
+        preds: Preds::new(alloc),
+        solves: Statements::new(alloc),
+    };
+    Ok(format!(in alloc; "{file:?}")?)
 }
 
 #[test]
 fn a_file_is_shown(rt: HostRuntime) -> Result<(), Fail> {
-    let mut signature = Signature::new(rt.alloc());
-    assert_eq!(rt; signature.declare("f", Kind::Symbol, 1), Ok(0));
-    let file = File {
-        signature,
-        preds: Preds::new(rt.alloc()),
-        solves: Statements::new(rt.alloc()),
-    };
-    let shown = format!(in rt.alloc(); "{file:?}")?;
+    let shown = text_of_file(rt.alloc())?;
     assert!(rt; shown.as_str().starts_with("File { signature: "));
     Ok(())
 }

@@ -8,32 +8,37 @@ use std::test::*;
 use tree_model::{Assignment, NoMemory, Node, Places, Symbol};
 
 // A name in a list.
-fn add(alloc: Global, names: &mut Names, name: &str) -> Result<(), Fail> {
-    names.push(Name::new(String::from_str(alloc, name)?))?;
-    Ok(())
+fn add(alloc: Global, names: &mut Names, name: &str) -> Result<(), NoMemory> {
+    names.push(Name::new(String::from_str(alloc, name)?))
 }
 
-// The names `X` and `Y`.
-fn two_names(alloc: Global) -> Result<Names, Fail> {
+// A list of two names.
+fn two_names(alloc: Global, first: &str, second: &str) -> Result<Names, NoMemory> {
     let mut names = Names::new(alloc);
-    add(alloc, &mut names, "X")?;
-    add(alloc, &mut names, "Y")?;
+    add(alloc, &mut names, first)?;
+    add(alloc, &mut names, second)?;
     Ok(names)
 }
 
 // The symbols `f`, of one argument, `g`, of two, and `a`, of none, and the predicates `p`, of two, and `q`, of none.
-fn declared(alloc: Global) -> Result<Signature, Fail> {
+fn declared(alloc: Global) -> Result<Signature, NoMemory> {
     let mut sig = Signature::new(alloc);
-    sig.declare("f", Kind::Symbol, 1)?;
-    sig.declare("g", Kind::Symbol, 2)?;
-    sig.declare("a", Kind::Symbol, 0)?;
-    sig.declare("p", Kind::Pred, 2)?;
-    sig.declare("q", Kind::Pred, 0)?;
+    for (name, kind, arity) in [
+        ("f", Kind::Symbol, 1),
+        ("g", Kind::Symbol, 2),
+        ("a", Kind::Symbol, 0),
+        ("p", Kind::Pred, 2),
+        ("q", Kind::Pred, 0),
+    ] {
+        let Ok(_) = sig.declare(name, kind, arity) else {
+            return Err(NoMemory);
+        };
+    }
     Ok(sig)
 }
 
 // A symbol applied to these variables.
-fn applied(alloc: Global, symbol: Symbol, variables: &[usize]) -> Result<Term, Fail> {
+fn applied(alloc: Global, symbol: Symbol, variables: &[usize]) -> Result<Term, NoMemory> {
     let mut terms = Terms::new(alloc);
     for &x in variables {
         terms.push(Term::Var(x))?;
@@ -41,23 +46,20 @@ fn applied(alloc: Global, symbol: Symbol, variables: &[usize]) -> Result<Term, F
     Ok(Term::App(symbol, terms))
 }
 
-fn boxed(alloc: Global, f: Formula) -> Result<Boxed<Formula>, Fail> {
-    match Boxed::new(alloc, f) {
-        Ok(b) => Ok(b),
-        Err(_) => Err(Fail::from(NoMemory)),
-    }
+fn boxed(alloc: Global, f: Formula) -> Result<Boxed<Formula>, NoMemory> {
+    Ok(Boxed::new(alloc, f)?)
 }
 
 // What is last on a stack.
-fn popped(alloc: Global, stack: &mut Vec<Formula>) -> Result<Boxed<Formula>, Fail> {
+fn popped(alloc: Global, stack: &mut Vec<Formula>) -> Result<Boxed<Formula>, NoMemory> {
     match stack.pop() {
         Some(f) => boxed(alloc, f),
-        None => Err(Fail::from(NoMemory)),
+        None => Err(NoMemory),
     }
 }
 
 // What joins the last two formulas of a stack.
-fn joined(alloc: Global, stack: &mut Vec<Formula>, mark: u8) -> Result<Formula, Fail> {
+fn joined(alloc: Global, stack: &mut Vec<Formula>, mark: u8) -> Result<Formula, NoMemory> {
     let right = popped(alloc, stack)?;
     let left = popped(alloc, stack)?;
     Ok(match mark {
@@ -69,7 +71,7 @@ fn joined(alloc: Global, stack: &mut Vec<Formula>, mark: u8) -> Result<Formula, 
 }
 
 // The formula that a byte of postfix notation stands for.
-fn next(alloc: Global, stack: &mut Vec<Formula>, byte: u8) -> Result<Formula, Fail> {
+fn next(alloc: Global, stack: &mut Vec<Formula>, byte: u8) -> Result<Formula, NoMemory> {
     match byte {
         b't' => Ok(Formula::True),
         b'f' => Ok(Formula::False),
@@ -85,37 +87,52 @@ fn next(alloc: Global, stack: &mut Vec<Formula>, byte: u8) -> Result<Formula, Fa
     }
 }
 
+fn read(alloc: Global, stack: &mut Vec<Formula>, code: &str) -> Result<(), NoMemory> {
+    for &byte in code.as_bytes() {
+        let formula = next(alloc, stack, byte)?;
+        stack.push(formula)?;
+    }
+    Ok(())
+}
+
 // The formula that is written in postfix notation: `t` and `f` for truth and falsity, `x`, `y` and `z` for X = X, Y = Y and
 // X = Y, `~` behind what is negated, `E` and `A` for quantifiers over X, `e` and `a` for quantifiers over Y, and the marks
 // `&`, `|`, `>` and `=` behind both sides.
-fn formula(alloc: Global, code: &str) -> Result<Formula, Fail> {
+fn formula(alloc: Global, code: &str) -> Result<Formula, NoMemory> {
     let mut stack = Vec::new(alloc);
-    for &byte in code.as_bytes() {
-        let formula = next(alloc, &mut stack, byte)?;
-        stack.push(formula)?;
-    }
+    read(alloc, &mut stack, code)?;
     match stack.pop() {
         Some(f) => Ok(f),
-        None => Err(Fail::from(NoMemory)),
+        None => Err(NoMemory),
     }
 }
 
-// What is printed for the formula in postfix notation, over the variables X and Y.
-fn printed(alloc: Global, code: &str) -> Result<String, Fail> {
-    let f = formula(alloc, code)?;
-    checked_print(alloc, &Signature::new(alloc), &f)
+// What is printed for a formula over these names.
+fn named_print(
+    alloc: Global,
+    sig: &Signature,
+    names: &Names,
+    f: &Formula,
+) -> Result<String, NoMemory> {
+    if !are_names(sig, names) {
+        return Err(NoMemory);
+    }
+    if !formula_fits(sig, names.len(), f) {
+        return Err(NoMemory);
+    }
+    print_formula(alloc, sig, names, f)
 }
 
 // What is printed for a formula over the variables X and Y.
-fn checked_print(alloc: Global, sig: &Signature, f: &Formula) -> Result<String, Fail> {
-    let names = two_names(alloc)?;
-    if !are_names(sig, &names) {
-        return Err(Fail::from(NoMemory));
-    }
-    if !formula_fits(sig, names.len(), f) {
-        return Err(Fail::from(NoMemory));
-    }
-    Ok(print_formula(alloc, sig, &names, f)?)
+fn checked_print(alloc: Global, sig: &Signature, f: &Formula) -> Result<String, NoMemory> {
+    let names = two_names(alloc, "X", "Y")?;
+    named_print(alloc, sig, &names, f)
+}
+
+// What is printed for the formula in postfix notation, over the variables X and Y.
+fn printed(alloc: Global, code: &str) -> Result<String, NoMemory> {
+    let f = formula(alloc, code)?;
+    checked_print(alloc, &Signature::new(alloc), &f)
 }
 
 // Formulas in postfix notation, each with its text: an operator or a quantifier of each kind at each place, and more.
@@ -219,49 +236,47 @@ tef&E: exists X: (exists Y: true & false)";
 #[test]
 fn parentheses_stand_where_they_must_and_nowhere_else(rt: HostRuntime) -> Result<(), Fail> {
     for line in TEXTS.lines() {
-        let Some((code, text)) = line.split_once(": ") else {
-            return Err(Fail::from(NoMemory));
-        };
+        let (code, text) = line.split_once(": ").ok_or("a row has two parts")?;
         assert_eq!(rt; printed(rt.alloc(), code)?.as_str(), text, "{code}");
     }
     Ok(())
 }
 
-fn equation(alloc: Global) -> Result<Formula, Fail> {
+fn equation(alloc: Global) -> Result<Formula, NoMemory> {
     let right = applied(alloc, Symbol::Named(0), &[1])?;
     Ok(Formula::Eq(Term::Var(0), right))
 }
 
-fn quantified(alloc: Global) -> Result<Formula, Fail> {
+fn quantified(alloc: Global) -> Result<Formula, NoMemory> {
     Ok(Formula::Exists(1, boxed(alloc, equation(alloc)?)?))
 }
 
-fn negated_equation(alloc: Global) -> Result<Formula, Fail> {
+fn negated_equation(alloc: Global) -> Result<Formula, NoMemory> {
     let left = applied(alloc, Symbol::Named(1), &[0, 1])?;
     let right = applied(alloc, Symbol::Named(2), &[])?;
     Ok(Formula::Differ(left, right))
 }
 
 // The variable Y and the further symbol of the least index.
-fn two_arguments(alloc: Global) -> Result<Terms, Fail> {
+fn two_arguments(alloc: Global) -> Result<Terms, NoMemory> {
     let mut arguments = Terms::new(alloc);
     arguments.push(Term::Var(1))?;
     arguments.push(applied(alloc, Symbol::Further(0), &[])?)?;
     Ok(arguments)
 }
 
-fn finiteness(alloc: Global) -> Result<Formula, Fail> {
+fn finiteness(alloc: Global) -> Result<Formula, NoMemory> {
     let greatest = Symbol::Further(18446744073709551615);
     Ok(Formula::Finite(applied(alloc, greatest, &[1, 1, 1])?))
 }
 
-fn won(alloc: Global) -> Result<Formula, Fail> {
+fn won(alloc: Global) -> Result<Formula, NoMemory> {
     let place = applied(alloc, Symbol::Named(2), &[])?;
     Ok(Formula::Win(3, 1000, place))
 }
 
 // An atom of each kind.
-fn atom(alloc: Global, number: usize) -> Result<Formula, Fail> {
+fn atom(alloc: Global, number: usize) -> Result<Formula, NoMemory> {
     match number {
         0 => quantified(alloc),
         1 => negated_equation(alloc),
@@ -273,9 +288,19 @@ fn atom(alloc: Global, number: usize) -> Result<Formula, Fail> {
     }
 }
 
+// What is printed for a formula over what is declared.
+fn declared_print(alloc: Global, f: &Formula) -> Result<String, NoMemory> {
+    let sig = declared(alloc)?;
+    checked_print(alloc, &sig, f)
+}
+
+fn printed_atom(alloc: Global, number: usize) -> Result<String, NoMemory> {
+    let atom = atom(alloc, number)?;
+    declared_print(alloc, &atom)
+}
+
 #[test]
 fn each_atom_is_written(rt: HostRuntime) -> Result<(), Fail> {
-    let sig = declared(rt.alloc())?;
     for (number, wanted) in [
         "exists Y: X = f(Y)",
         "g(X, Y) != a",
@@ -288,15 +313,14 @@ fn each_atom_is_written(rt: HostRuntime) -> Result<(), Fail> {
     .iter()
     .enumerate()
     {
-        let atom = atom(rt.alloc(), number)?;
-        let text = checked_print(rt.alloc(), &sig, &atom)?;
+        let text = printed_atom(rt.alloc(), number)?;
         assert_eq!(rt; text.as_str(), *wanted);
     }
     Ok(())
 }
 
 // A formula and a truth, joined by `&` or by `|`.
-fn nested(alloc: Global, f: Formula, by_and: bool, to_the_left: bool) -> Result<Formula, Fail> {
+fn nested(alloc: Global, f: Formula, by_and: bool, to_the_left: bool) -> Result<Formula, NoMemory> {
     let nested = boxed(alloc, f)?;
     let other = boxed(alloc, Formula::True)?;
     Ok(match (by_and, to_the_left) {
@@ -308,7 +332,7 @@ fn nested(alloc: Global, f: Formula, by_and: bool, to_the_left: bool) -> Result<
 }
 
 // The formula with a thousand marks, nested to the left or to the right.
-fn deep(alloc: Global, by_and: bool, to_the_left: bool) -> Result<Formula, Fail> {
+fn deep(alloc: Global, by_and: bool, to_the_left: bool) -> Result<Formula, NoMemory> {
     let mut f = Formula::True;
     for _ in 0..1000 {
         f = nested(alloc, f, by_and, to_the_left)?;
@@ -316,20 +340,24 @@ fn deep(alloc: Global, by_and: bool, to_the_left: bool) -> Result<Formula, Fail>
     Ok(f)
 }
 
+fn printed_deep(alloc: Global, by_and: bool, to_the_left: bool) -> Result<String, NoMemory> {
+    let f = deep(alloc, by_and, to_the_left)?;
+    checked_print(alloc, &Signature::new(alloc), &f)
+}
+
 #[test]
 fn a_deep_formula_is_written(rt: HostRuntime) -> Result<(), Fail> {
-    let sig = Signature::new(rt.alloc());
-    for &by_and in &[true, false] {
-        let left = checked_print(rt.alloc(), &sig, &deep(rt.alloc(), by_and, true)?)?;
+    for by_and in [true, false] {
+        let left = printed_deep(rt.alloc(), by_and, true)?;
         assert_eq!(rt; left.len(), 4 * 1001 + 3 * 1000);
-        let right = checked_print(rt.alloc(), &sig, &deep(rt.alloc(), by_and, false)?)?;
+        let right = printed_deep(rt.alloc(), by_and, false)?;
         assert_eq!(rt; right.len(), 4 * 1001 + 3 * 1000 + 2 * 999);
     }
     Ok(())
 }
 
 // A list of places.
-fn places(alloc: Global, numbers: &[usize]) -> Result<Places, Fail> {
+fn places(alloc: Global, numbers: &[usize]) -> Result<Places, NoMemory> {
     let mut places = Places::new(alloc);
     for &number in numbers {
         places.push(number)?;
@@ -338,57 +366,65 @@ fn places(alloc: Global, numbers: &[usize]) -> Result<Places, Fail> {
 }
 
 // A node with this symbol and these children.
-fn node(alloc: Global, symbol: Symbol, children: &[usize]) -> Result<Node, Fail> {
+fn node(alloc: Global, symbol: Symbol, children: &[usize]) -> Result<Node, NoMemory> {
     let children = places(alloc, children)?;
     Ok(Node { symbol, children })
 }
 
-// What is printed for an assignment of these nodes and roots.
-fn assigned(
-    alloc: Global,
-    names: &Names,
-    nodes: Vec<Node>,
-    roots: &[usize],
-) -> Result<String, Fail> {
-    let sig = declared(alloc)?;
-    let Ok(assignment) = Assignment::new(nodes, places(alloc, roots)?) else {
-        return Err(Fail::from(NoMemory));
-    };
-    if names.len() == 0 || assignment.roots().len() != names.len() {
-        return Err(Fail::from(NoMemory));
+fn assignment(alloc: Global, nodes: Vec<Node>, roots: &[usize]) -> Result<Assignment, NoMemory> {
+    match Assignment::new(nodes, places(alloc, roots)?) {
+        Ok(assignment) => Ok(assignment),
+        Err(_) => Err(NoMemory),
     }
-    if !are_names(&sig, names) {
-        return Err(Fail::from(NoMemory));
+}
+
+// What is printed for an assignment of these names.
+fn checked_assignment(
+    alloc: Global,
+    sig: &Signature,
+    names: &Names,
+    assignment: &Assignment,
+) -> Result<String, NoMemory> {
+    if names.len() == 0 || assignment.roots().len() != names.len() {
+        return Err(NoMemory);
+    }
+    if !are_names(sig, names) {
+        return Err(NoMemory);
     }
     if !sig.fits(assignment.nodes()) {
-        return Err(Fail::from(NoMemory));
+        return Err(NoMemory);
     }
-    Ok(print_assignment(alloc, &sig, names, &assignment)?)
+    print_assignment(alloc, sig, names, assignment)
 }
 
-fn name(alloc: Global, name: &str) -> Result<Names, Fail> {
-    let mut names = Names::new(alloc);
-    add(alloc, &mut names, name)?;
-    Ok(names)
+fn assigned(alloc: Global, names: &Names, assignment: &Assignment) -> Result<String, NoMemory> {
+    let sig = declared(alloc)?;
+    checked_assignment(alloc, &sig, names, assignment)
 }
 
-fn a_loop(alloc: Global, index: u64) -> Result<Vec<Node>, Fail> {
+fn a_loop(alloc: Global, index: u64) -> Result<Assignment, NoMemory> {
     let mut nodes = Vec::new(alloc);
     nodes.push(node(alloc, Symbol::Further(index), &[0])?)?;
-    Ok(nodes)
+    assignment(alloc, nodes, &[0])
 }
 
-fn shared_nodes(alloc: Global) -> Result<Vec<Node>, Fail> {
+fn shared_nodes(alloc: Global) -> Result<Assignment, NoMemory> {
     let mut nodes = Vec::new(alloc);
     nodes.push(node(alloc, Symbol::Named(1), &[1, 2])?)?;
     nodes.push(node(alloc, Symbol::Named(2), &[])?)?;
     nodes.push(node(alloc, Symbol::Named(0), &[0])?)?;
-    Ok(nodes)
+    assignment(alloc, nodes, &[2, 2])
+}
+
+// What is printed of X at a loop.
+fn printed_loop(alloc: Global, index: u64) -> Result<String, NoMemory> {
+    let mut names = Names::new(alloc);
+    add(alloc, &mut names, "X")?;
+    assigned(alloc, &names, &a_loop(alloc, index)?)
 }
 
 #[test]
 fn an_assignment_is_written(rt: HostRuntime) -> Result<(), Fail> {
-    let alloc = rt.alloc();
     for (index, wanted) in [
         (0, "exists V0: (V0 = $0(V0) & X = V0)"),
         (
@@ -396,33 +432,45 @@ fn an_assignment_is_written(rt: HostRuntime) -> Result<(), Fail> {
             "exists V0: (V0 = $18446744073709551615(V0) & X = V0)",
         ),
     ] {
-        let text = assigned(alloc, &name(alloc, "X")?, a_loop(alloc, index)?, &[0])?;
+        let text = printed_loop(rt.alloc(), index)?;
         assert_eq!(rt; text.as_str(), wanted);
     }
     Ok(())
 }
 
+fn printed_shared(alloc: Global) -> Result<String, NoMemory> {
+    let names = two_names(alloc, "V1", "Y")?;
+    assigned(alloc, &names, &shared_nodes(alloc)?)
+}
+
 // A name that the text would choose for a node is taken.
 #[test]
 fn a_node_has_no_name_that_is_taken(rt: HostRuntime) -> Result<(), Fail> {
-    let alloc = rt.alloc();
-    let mut names = name(alloc, "V1")?;
-    add(alloc, &mut names, "Y")?;
-    let text = assigned(alloc, &names, shared_nodes(alloc)?, &[2, 2])?;
+    let text = printed_shared(rt.alloc())?;
     let wanted = "exists V0 V2 V3: (V0 = g(V2, V3) & V2 = a & V3 = f(V0) & V1 = V3 & Y = V3)";
     assert_eq!(rt; text.as_str(), wanted);
     Ok(())
 }
 
+fn new_names(alloc: Global) -> Result<Names, NoMemory> {
+    let names = two_names(alloc, "V1", "V")?;
+    bound_names(alloc, &names, 3)
+}
+
+// The new names, each with a blank behind it.
+fn text_of_new_names(alloc: Global) -> Result<String, NoMemory> {
+    let mut text = String::new(alloc);
+    for name in new_names(alloc)?.as_slice() {
+        text.push_str(name.as_str())?;
+        text.push_str(" ")?;
+    }
+    Ok(text)
+}
+
 #[test]
 fn bound_variables_have_new_names(rt: HostRuntime) -> Result<(), Fail> {
-    let mut names = name(rt.alloc(), "V1")?;
-    add(rt.alloc(), &mut names, "V")?;
-    let found = bound_names(rt.alloc(), &names, 3)?;
-    assert_eq!(rt; found.len(), 3);
-    for (i, wanted) in ["V0", "V2", "V3"].iter().enumerate() {
-        assert_eq!(rt; found.get(i).as_str(), *wanted);
-    }
+    let text = text_of_new_names(rt.alloc())?;
+    assert_eq!(rt; text.as_str(), "V0 V2 V3 ");
     Ok(())
 }
 
