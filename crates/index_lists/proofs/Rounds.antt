@@ -1,9 +1,9 @@
 -- Rings, followed from cell to cell.
-use Rattle.std.proofs.Common.{◌≡◌, ◌≢◌, ℕ, zero, suc, ◌<◌, ◌≤◌, ◌+◌, ◌-◌, true, false, List, [], ◌∷◌, ◌++◌, length, get_or, refl, sym, ◌∙◌, ap, subst, inl, inr, arith, nat_eq}
+use Rattle.std.proofs.Common.{◌≡◌, ◌≢◌, ℕ, zero, suc, ◌<◌, ◌≤◌, ◌+◌, ◌-◌, true, false, List, [], ◌∷◌, ◌++◌, length, get_or, refl, sym, ◌∙◌, ap, subst, inl, inr, arith, nat_eq, set}
 use Rattle.std.specs.List.{IsDistinct, AllByRecursion, list_any, position_or_len}
 use Rattle.std.specs.Prelude.{Contains}
 use Rattle.std.proofs.lemmas.Bool.{cases_eq, ne_eqb, eq-eqb}
-use Rattle.std.proofs.lemmas.List.{get_or_append_left, get_or_push, length_push, length-map, map-append}
+use Rattle.std.proofs.lemmas.List.{get_or_append_left, get_or_push, length_push, set-get_or, length-map, map-append}
 use Rattle.std.proofs.lemmas.List.Elements.{Contains-append_right}
 use Rattle.std.proofs.lemmas.Map.Keys.{IsDistinct-cons}
 use Rattle.std.proofs.lemmas.Map.Steps.{length-le_from_distinct_below}
@@ -203,6 +203,10 @@ module _ (next previous : List ℕ) (h : ArePaired next previous) where
   pub round_of_each : (c : ℕ) → c < length next → (cells : List ℕ) × IsRound next c cells
   round_of_each c l = back_from (suc (length next)) c c [] l l there (omega arith)
 
+exchanged-itself : (a : ℕ) (next : List ℕ) → exchanged a a next ≡ next
+unfolding exchanged
+exchanged-itself a next = ap (λ z. set z a (get_or next a 0)) (set-get_or next a 0) ∙ set-get_or next a 0
+
 -- a cell more, alone in its ring
 pub round_alone : (next : List ℕ) → IsRound (next ++ length next ∷ []) (length next) []
 round_alone next = record { way = subst (λ z. Way (next ++ length next ∷ []) (length next) z []) (sym (get_or_push next (length next) 0 (length next) refl)) there }
@@ -216,6 +220,15 @@ module _ (next : List ℕ) (inside : IsInside next) where
     | inl e ↦ rw (get_or_push next (length next) 0 i (sym e)) (omega arith)
     | inr n ↦ (let k : i < length next = omega (arith, length_push next (length next), n) in let t = inside i k in rw (added-next i k) (omega arith))
   ])
+
+  pub added_away : without_last (next ++ length next ∷ []) ≡ next
+  unfolding without_last
+  added_away =
+      let n : length (next ++ length next ∷ []) - 1 ≡ length next = omega (arith, length_push next (length next)) in
+      let b : position_or_len (nat_eq (length next)) (next ++ length next ∷ []) ≡ length next = position_or_len_is (nat_eq (length next)) (next ++ length next ∷ []) (length next) 0 (omega (arith, length_push next (length next)))
+          (λ k l. ne_eqb (length next) (get_or (next ++ length next ∷ []) k 0) (λ e. (let f : get_or (next ++ length next ∷ []) k 0 ≡ get_or next k 0 = added-next k l in let m = inside k l in omega arith)))
+          (λ l. eq-eqb (length next) (get_or (next ++ length next ∷ []) (length next) 0) (sym (get_or_push next (length next) 0 (length next) refl))) in
+      rw (n, b, exchanged-itself (length next) (next ++ length next ∷ [])) (take-append_seam next (length next ∷ []))
 
   way_added : {stop c : ℕ} {xs : List ℕ} → Way next stop c xs → c < length next → Way (next ++ length next ∷ []) stop c xs
   way_added there l = there

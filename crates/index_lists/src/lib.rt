@@ -119,6 +119,7 @@ impl Rings {
     pub fn remove_last(&mut self)
         requires { 0 < length self.old }
         ensures left { self.new ≡ without_last self.old }
+        ensures len { length self.new + 1 ≡ length self.old }
         ensures parted { (c : ℕ) (A B : List ℕ) → c < length self.new → IsRound self.old c (A ++ length self.new ∷ B) → IsRound self.new c (A ++ B) }
         ensures others { (c : ℕ) (cells : List ℕ) → c < length self.new → ¬ Contains cells (length self.new) → IsRound self.old c cells → IsRound self.new c cells }
     {

@@ -40,3 +40,6 @@ returns-clause-parted c =
 pub returns-clause-others : goal.returns-clause-others
 returns-clause-others c =
     rw (← c.self.view_is, shorter c, now c) (round_stays (nexts c.self.inside.cells.items) (previouses c.self.inside.cells.items) (c.len-last.result - 1) c.self.invariant (long c))
+
+pub returns-clause-len : goal.returns-clause-len
+returns-clause-len c = omega (arith, shorter c, long c, ap length c.self.view_is)
