@@ -1,0 +1,10 @@
+pub mod Adding
+pub mod Forests
+pub mod Keying
+pub mod Marking
+pub mod Mentioning
+pub mod Reading
+pub mod Restoring
+pub mod Ringing
+pub mod Sharing
+pub mod Trailing

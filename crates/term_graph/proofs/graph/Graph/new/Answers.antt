@@ -1,0 +1,8 @@
+use Rattle.term_graph.specs.Fields.{fields}
+use Rattle.term_graph.proofs.Adding.{new-is}
+use Rattle.term_graph.proofs.graph.Graph.new.Goals as goal
+
+pub returns : goal.returns
+returns c =
+    new-is c.new-7.result.items (fields (record { slots = c.new.result; terms = c.new-2.result; cells = c.new-3.result; rings = c.new-4.result; table = c.new-5.result; lowered = c.new-6.result }))
+    c.new-7.ensures.items c.new.ensures.items c.new-2.ensures.items

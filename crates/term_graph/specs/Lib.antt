@@ -1,0 +1,5 @@
+pub mod Contents
+pub mod Fields
+pub mod Good
+pub mod Keys
+pub mod Lowering

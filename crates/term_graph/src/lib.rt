@@ -1,0 +1,16 @@
+//! One graph of variables and shared terms by index, with a trail of its changes and exact undo.
+#![tactic(auto)]
+
+mod bound;
+mod change;
+mod graph;
+mod key;
+mod parts;
+mod term;
+
+pub use bound::Bound;
+pub use graph::{Graph, Mark};
+pub use term::Term;
+
+#[cfg(test)]
+mod tests;
