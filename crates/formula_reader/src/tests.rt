@@ -133,34 +133,55 @@ fn write_file(shown: &mut String, file: &File) -> Result<(), AllocError> {
     Ok(())
 }
 
-// What the text of a formula is read as: a statement, or the fault that it is refused for.
-fn read_as(alloc: Global, signature: &Signature, text: &str) -> Result<String, AllocError> {
-    let mut shown = String::new(alloc);
-    match read_formula(alloc, signature, text.as_bytes()) {
-        Ok(statement) => write_named(&mut shown, &statement.names, &statement.body)?,
-        Err(error) => write!(shown, "{error}")?,
+// `f` with one argument, `a` with none, and predicates `p` of one and `m` of two; and two names past the limits of files,
+// `wide` with nine arguments, and one of 65 bytes.
+fn signature(alloc: Global) -> Result<Signature, Fail> {
+    let long = format!(in alloc; "{NAME_OF_64}4")?;
+    let mut signature = Signature::new(alloc);
+    for (name, kind, arity) in [
+        ("f", Kind::Symbol, 1),
+        ("a", Kind::Symbol, 0),
+        ("p", Kind::Pred, 1),
+        ("m", Kind::Pred, 2),
+        ("wide", Kind::Symbol, 9),
+        (long.as_str(), Kind::Symbol, 0),
+    ] {
+        signature.declare(name, kind, arity)?;
     }
+    Ok(signature)
+}
+// What the text of a formula is read as: a statement, or the fault that it is refused for.
+fn write_read(
+    shown: &mut String,
+    alloc: Global,
+    signature: &Signature,
+    text: &str,
+) -> Result<(), AllocError> {
+    match read_formula(alloc, signature, text.as_bytes()) {
+        Ok(statement) => write_named(shown, &statement.names, &statement.body),
+        Err(error) => write!(shown, "{error}"),
+    }
+}
+
+fn read_as(alloc: Global, text: &str) -> Result<String, Fail> {
+    let mut shown = String::new(alloc);
+    let signature = signature(alloc)?;
+    write_read(&mut shown, alloc, &signature, text)?;
     Ok(shown)
 }
 
 // What the text of a file is read as.
-fn file_read_as(alloc: Global, text: &str) -> Result<String, AllocError> {
-    let mut shown = String::new(alloc);
+fn write_file_read(shown: &mut String, alloc: Global, text: &str) -> Result<(), AllocError> {
     match read_file(alloc, text.as_bytes()) {
-        Ok(file) => write_file(&mut shown, &file)?,
-        Err(error) => write!(shown, "{error}")?,
+        Ok(file) => write_file(shown, &file),
+        Err(error) => write!(shown, "{error}"),
     }
-    Ok(shown)
 }
 
-// `f` with one argument, `a` with none, and predicates `p` of one and `m` of two.
-fn signature(alloc: Global) -> Result<Signature, Fail> {
-    let mut signature = Signature::new(alloc);
-    signature.declare("f", Kind::Symbol, 1)?;
-    signature.declare("a", Kind::Symbol, 0)?;
-    signature.declare("p", Kind::Pred, 1)?;
-    signature.declare("m", Kind::Pred, 2)?;
-    Ok(signature)
+fn file_read_as(alloc: Global, text: &str) -> Result<String, AllocError> {
+    let mut shown = String::new(alloc);
+    write_file_read(&mut shown, alloc, text)?;
+    Ok(shown)
 }
 
 // What formulas are read as, and behind the sign `<<` their texts.
@@ -185,10 +206,9 @@ const FORMULAS: &str = "\
 
 #[test]
 fn operators_bind_by_their_strength(rt: HostRuntime) -> Result<(), Fail> {
-    let signature = signature(rt.alloc())?;
     for line in FORMULAS.lines() {
         let (wanted, text) = line.split_once(" << ").ok_or("a row has two parts")?;
-        let read = read_as(rt.alloc(), &signature, text)?;
+        let read = read_as(rt.alloc(), text)?;
         assert_eq!(rt; read.as_str(), wanted, "{text}");
     }
     Ok(())
@@ -217,10 +237,9 @@ byte 4: Limit << X = $99999999999999999999";
 
 #[test]
 fn other_formulas_are_refused_at_their_first_fault(rt: HostRuntime) -> Result<(), Fail> {
-    let signature = signature(rt.alloc())?;
     for line in REFUSED_FORMULAS.lines() {
         let (wanted, text) = line.split_once(" << ").ok_or("a row has two parts")?;
-        let read = read_as(rt.alloc(), &signature, text)?;
+        let read = read_as(rt.alloc(), text)?;
         assert_eq!(rt; read.as_str(), wanted, "{text}");
     }
     Ok(())
@@ -228,19 +247,11 @@ fn other_formulas_are_refused_at_their_first_fault(rt: HostRuntime) -> Result<()
 
 #[test]
 fn a_formula_may_use_names_past_the_limits_of_files(rt: HostRuntime) -> Result<(), Fail> {
-    let mut signature = signature(rt.alloc())?;
-    signature.declare("wide", Kind::Symbol, 9)?;
-    let long = format!(in rt.alloc(); "{NAME_OF_64}4")?;
-    signature.declare(&long, Kind::Symbol, 0)?;
-    let wide = read_as(
-        rt.alloc(),
-        &signature,
-        "X = wide(a, a, a, a, a, a, a, a, a)",
-    )?;
+    let wide = read_as(rt.alloc(), "X = wide(a, a, a, a, a, a, a, a, a)")?;
     let applied = "[X ] 0 = #4(#1, #1, #1, #1, #1, #1, #1, #1, #1)";
     assert_eq!(rt; wide.as_str(), applied);
-    let text = format!(in rt.alloc(); "X = {long}")?;
-    let refused = read_as(rt.alloc(), &signature, &text)?;
+    let text = format!(in rt.alloc(); "X = {NAME_OF_64}4")?;
+    let refused = read_as(rt.alloc(), &text)?;
     assert_eq!(rt; refused.as_str(), "byte 4: Limit");
     Ok(())
 }
@@ -365,12 +376,16 @@ fn other_files_are_refused_at_their_first_fault(rt: HostRuntime) -> Result<(), F
 }
 
 // How much a text declares and asks, or the fault that it is refused for.
+fn write_counts_read(shown: &mut String, alloc: Global, text: &str) -> Result<(), AllocError> {
+    match read_file(alloc, text.as_bytes()) {
+        Ok(file) => write_counts(shown, &file),
+        Err(error) => write!(shown, "{error}"),
+    }
+}
+
 fn counts_of(alloc: Global, text: &str) -> Result<String, AllocError> {
     let mut shown = String::new(alloc);
-    match read_file(alloc, text.as_bytes()) {
-        Ok(file) => write_counts(&mut shown, &file)?,
-        Err(error) => write!(shown, "{error}")?,
-    }
+    write_counts_read(&mut shown, alloc, text)?;
     Ok(shown)
 }
 
@@ -414,35 +429,46 @@ fn longest_file(alloc: Global) -> Result<String, AllocError> {
     Ok(text)
 }
 
+fn counts_of_question(alloc: Global, variables: usize) -> Result<String, AllocError> {
+    let text = question_of(alloc, variables)?;
+    counts_of(alloc, text.as_str())
+}
+
+fn counts_of_symbols(alloc: Global, symbols: usize) -> Result<String, AllocError> {
+    let text = symbols_of(alloc, symbols)?;
+    counts_of(alloc, text.as_str())
+}
+
+// With this behind it.
+fn counts_of_longest(alloc: Global, more: &str) -> Result<String, AllocError> {
+    let mut text = longest_file(alloc)?;
+    text.push_str(more)?;
+    counts_of(alloc, text.as_str())
+}
+
 #[test]
 fn a_question_may_have_1000_variables(rt: HostRuntime) -> Result<(), Fail> {
-    let most = question_of(rt.alloc(), 1000)?;
-    let read = counts_of(rt.alloc(), most.as_str())?;
+    let read = counts_of_question(rt.alloc(), 1000)?;
     assert_eq!(rt; read.as_str(), "0 names, 1 questions, 1000 variables");
-    let more = question_of(rt.alloc(), 1001)?;
-    let refused = counts_of(rt.alloc(), more.as_str())?;
+    let refused = counts_of_question(rt.alloc(), 1001)?;
     assert_eq!(rt; refused.as_str(), "byte 4903: Limit");
     Ok(())
 }
 
 #[test]
 fn a_file_may_have_4096_symbols(rt: HostRuntime) -> Result<(), Fail> {
-    let most = symbols_of(rt.alloc(), 4096)?;
-    let read = counts_of(rt.alloc(), most.as_str())?;
+    let read = counts_of_symbols(rt.alloc(), 4096)?;
     assert_eq!(rt; read.as_str(), "4096 names, 0 questions");
-    let more = symbols_of(rt.alloc(), 4097)?;
-    let refused = counts_of(rt.alloc(), more.as_str())?;
+    let refused = counts_of_symbols(rt.alloc(), 4097)?;
     assert_eq!(rt; refused.as_str(), "byte 35760: Limit");
     Ok(())
 }
 
 #[test]
 fn a_file_may_have_1048576_bytes(rt: HostRuntime) -> Result<(), Fail> {
-    let mut text = longest_file(rt.alloc())?;
-    let read = counts_of(rt.alloc(), text.as_str())?;
+    let read = counts_of_longest(rt.alloc(), "")?;
     assert_eq!(rt; read.as_str(), "0 names, 65536 questions, 0 variables");
-    text.push_str(" ")?;
-    let refused = counts_of(rt.alloc(), text.as_str())?;
+    let refused = counts_of_longest(rt.alloc(), " ")?;
     assert_eq!(rt; refused.as_str(), "byte 1048576: Limit");
     Ok(())
 }
