@@ -1,5 +1,5 @@
 -- What is true of the fields of every graph.
-use Rattle.std.specs.Prelude.{◌≡◌, ◌<◌, ◌≤◌, ◌+◌, ◌-◌, ℕ, Option, Some, None, List, [], ◌∷◌, Contains, All, length, slice_index, slice_index_or}
+use Rattle.std.specs.Prelude.{◌≡◌, ◌<◌, ◌≤◌, ◌+◌, ◌-◌, ℕ, Option, Some, None, List, [], ◌∷◌, ◌++◌, ◌⊎◌, Contains, All, length, slice_index, slice_index_or}
 use Rattle.std.specs.List.{AllByRecursion}
 use Rattle.tree_model.specs.declared.tree.Symbol.{Symbol}
 use Rattle.term_graph.specs.declared.bound.Bound.{Bound}
@@ -10,8 +10,8 @@ use Rattle.term_graph.specs.declared.change.Change.{Change}
 use Rattle.term_graph.specs.declared.change.Change.TheVariants.{Added, Interned, Termed, Joined, Marked}
 use Rattle.term_graph.specs.declared.key.Key.{Key}
 use Rattle.term_graph.specs.Contents.{IsForest, root, target_of, binding_of, term_at, IsLeader}
-use Rattle.term_graph.specs.Keys.{shared_at}
-use Rattle.term_graph.specs.Fields.{Fields, bindings_of, heads_of, owners_of, mentions_of, undone, last_count}
+use Rattle.term_graph.specs.Keys.{shared_at, sign_of}
+use Rattle.term_graph.specs.Fields.{Fields, bindings_of, heads_of, owners_of, mentions_of, undone, last_count, made}
 use Rattle.index_lists.specs.Rings.{IsRound, IsInside}
 
 -- the ring of the root's own cell has exactly the cells of the variables with this root, and of the mentions of these
@@ -65,3 +65,10 @@ Fits (Marked v) f = v < length f.slots
 abbrev pub AreGood : List Change → Fields → Type 0
 AreGood [] f = IsGood f
 AreGood (c ∷ cs) f = IsGood f × Fits c f × AreGood cs (undone c f)
+
+-- on the fields: the least term with the symbol and the roots, and nothing is done; or a new one under a key that was not there
+abbrev pub IsInternedIn : Fields → Fields → List Change → List Change → Symbol → List ℕ → ℕ → Type 0
+IsInternedIn f f' cs ds symbol keys t =
+    ((shared_at f.entries symbol keys ≡ Some t) × (f' ≡ f) × (ds ≡ cs))
+    ⊎ ((shared_at f.entries symbol keys ≡ None) × (t ≡ length f.terms)
+    × ((key : Key) × (key.sign ≡ sign_of symbol) × (key.args.items ≡ keys) × (f' ≡ made (record { symbol = symbol; args = keys }) key f)) × (ds ≡ cs ++ Interned ∷ []))
