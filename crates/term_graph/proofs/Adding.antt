@@ -1,23 +1,20 @@
 -- A variable more.
-use Rattle.std.proofs.Common.{◌≡◌, ℕ, suc, ◌+◌, ◌-◌, ◌<◌, List, [], ◌∷◌, ◌++◌, length, take, map, get_or, refl, sym, ◌∙◌, ap, arith, subst, inl, inr}
-use Rattle.std.specs.Prelude.{reverse, Option, Some, None, Result, Ok, Err, OnOk, OnErr}
+use Rattle.std.proofs.Common.{◌≡◌, ℕ, suc, ◌-◌, ◌<◌, List, [], ◌∷◌, ◌++◌, length, take, get_or, refl, sym, ◌∙◌, ap, arith, subst, inl, inr}
+use Rattle.std.specs.Prelude.{reverse, Option, None, Result, Ok, Err, OnOk, OnErr}
 use Rattle.std.specs.List.{AllByRecursion}
 use Rattle.std.proofs.lemmas.Bool.{cases_eq, cases_lt}
 use Rattle.std.proofs.lemmas.List.{take_at, length_push, map-append, get_or_append_left, get_or_push, get_or_past, length-map}
-use Rattle.index_lists.specs.Rings.{IsRound, IsInside}
+use Rattle.index_lists.specs.Rings.{IsRound}
 use Rattle.index_lists.proofs.Rounds.{added_away}
 use Rattle.term_graph.specs.declared.bound.Bound.{Bound}
-use Rattle.term_graph.specs.declared.bound.Bound.TheVariants.{Free, Variable, Term}
-use Rattle.term_graph.specs.declared.parts.Slot.{Slot}
-use Rattle.term_graph.specs.declared.parts.Cell.{Cell}
+use Rattle.term_graph.specs.declared.bound.Bound.TheVariants.{Free, Term}
 use Rattle.term_graph.specs.declared.parts.Mention.{Mention}
 use Rattle.term_graph.specs.declared.change.Change.{Change}
 use Rattle.term_graph.specs.declared.change.Change.TheVariants.{Added}
 use Rattle.term_graph.specs.Contents.{History, empty, grown, with_variable, each, root, binding_of, term_at}
 use Rattle.term_graph.specs.Contents.Step.{Grew}
-use Rattle.term_graph.specs.Fields.{Fields, added, free, own, seen, undone, history, bindings_of, heads_of, owners_of, mentions_of, uses_seen, uses_in, used, round_of}
-use Rattle.term_graph.specs.Good.{Fits, IsGood, AreGood, AreRinged, IsClass}
-use Rattle.term_graph.proofs.Forests.{root-added}
+use Rattle.term_graph.specs.Fields.{Fields, added, free, own, seen, undone, history, bindings_of, heads_of, owners_of, mentions_of, uses_seen, uses_in, used}
+use Rattle.term_graph.specs.Good.{Fits, IsGood, AreGood, AreRinged}
 use Rattle.term_graph.proofs.Keying.{all_each}
 use Rattle.term_graph.proofs.Mentioning.{mentioned_added}
 use Rattle.term_graph.proofs.Reading.{round_is, used_more, each-same, push-same}

@@ -1,9 +1,8 @@
 -- A term more, with its mentions.
-use Rattle.std.proofs.Common.{ℕ, zero, suc, ◌≡◌, ◌≢◌, ◌<◌, ◌≤◌, ◌+◌, ◌-◌, true, false, List, [], ◌∷◌, ◌++◌, length, take, map, get_or, refl, sym, ap, ◌∙◌, subst, inl, inr, Some, None, arith, append_assoc, length-append, replicate, add-zero}
-use Rattle.std.specs.Prelude.{Option, count_by, nat_eq, cond}
+use Rattle.std.proofs.Common.{ℕ, zero, suc, ◌≡◌, ◌≢◌, ◌<◌, ◌≤◌, ◌+◌, ◌-◌, true, List, [], ◌∷◌, ◌++◌, length, take, map, get_or, refl, sym, ap, ◌∙◌, subst, inl, inr, Some, None, arith, append_assoc, length-append}
+use Rattle.std.specs.Prelude.{Option}
 use Rattle.std.specs.List.{AllByRecursion}
-use Rattle.std.specs.Map.{lookup}
-use Rattle.std.proofs.lemmas.Bool.{cases_eq, cases_lt, eq-eqb, ne_eqb}
+use Rattle.std.proofs.lemmas.Bool.{cases_eq, cases_lt}
 use Rattle.std.proofs.lemmas.List.{get_or_append_left, get_or_push, length_push, length-map, map-append, take_at, take_all, take_more, length-take-le, get_or-map, get_or-append-add}
 use Rattle.index_lists.specs.Rings.{IsRound, IsInside, with_cell, without_last}
 use Rattle.index_lists.proofs.Rounds.{with_cell-inside, length-with_cell, taken_away}
@@ -24,7 +23,6 @@ use Rattle.term_graph.proofs.Keying.{key_tells, key_same, lookup_old, lookup_new
 use Rattle.term_graph.proofs.Mentioning.{mention_in}
 use Rattle.term_graph.proofs.Reading.{used_more}
 use Rattle.term_graph.proofs.Ringing.{ringed_mention, round_a, round_not_a, class_of, rest_within, root_in}
-use Rattle.term_graph.proofs.Sharing.{leader_by}
 
 pub length-mentions : (t i : ℕ) (as' : List ℕ) → length (mentions t i as') ≡ length as'
 length-mentions t i [] = refl

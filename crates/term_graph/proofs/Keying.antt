@@ -1,6 +1,6 @@
 -- Keys: when two are equal, and what is looked up.
-use Rattle.std.proofs.Common.{ℕ, ◌≡◌, Bool, true, false, cond, List, [], ◌∷◌, ◌++◌, refl, sym, ap, ◌∙◌, subst, inl, inr, ◌⊎◌, Some, None}
-use Rattle.std.specs.Prelude.{◌&&◌, nat_eq, Option}
+use Rattle.std.proofs.Common.{ℕ, ◌≡◌, Bool, true, false, cond, List, [], ◌∷◌, ◌++◌, refl, ap, ◌∙◌, subst, inl, inr, ◌⊎◌, Some, None}
+use Rattle.std.specs.Prelude.{◌&&◌, nat_eq}
 use Rattle.std.specs.List.{AllByRecursion}
 use Rattle.std.specs.Cmp.Lexicographic.{pointwise, bytes_decides}
 use Rattle.std.specs.Map.{lookup}
@@ -11,7 +11,7 @@ use Rattle.term_graph.specs.declared.key.Sign.{Sign}
 use Rattle.term_graph.specs.declared.key.Sign.TheVariants.{Named, Further}
 use Rattle.term_graph.specs.declared.key.Key.{Key}
 use Rattle.term_graph.specs.contracts.key.KeyPartialEq.TheImpl as impl
-use Rattle.term_graph.specs.Keys.{sign_of, is_same_sign, is_key_of, is_same_key}
+use Rattle.term_graph.specs.Keys.{sign_of, is_same_sign, is_key_of}
 
 first_true : (a b : Bool) → (a && b) ≡ true → a ≡ true
 first_true true b h = refl

@@ -1,28 +1,25 @@
 -- A term more: taken back, good still, and what is seen.
-use Rattle.std.proofs.Common.{ℕ, zero, suc, ◌≡◌, ◌≢◌, ◌<◌, ◌≤◌, ◌+◌, ◌-◌, true, false, List, [], ◌∷◌, ◌++◌, length, take, map, get_or, refl, sym, ap, ◌∙◌, subst, inl, inr, ◌⊎◌, Some, None, arith, append_assoc, length-append}
+use Rattle.std.proofs.Common.{ℕ, ◌≡◌, ◌<◌, ◌+◌, ◌-◌, true, false, List, [], ◌∷◌, ◌++◌, length, map, get_or, refl, sym, ap, ◌∙◌, subst, inl, inr, Some, None, arith, append_assoc, length-append}
 use Rattle.std.specs.Prelude.{Option, nat_eq, reverse, Result, Ok, Err, IfOk, OnOk, OnErr, All}
 use Rattle.std.specs.List.{AllByRecursion}
 use Rattle.std.specs.Map.{lookup}
 use Rattle.std.proofs.lemmas.Bool.{cases_eq, eq-eqb, ne_eqb}
-use Rattle.std.proofs.lemmas.List.{length_push, length-map, map-append, take_at, get_or_push, append-nil}
+use Rattle.std.proofs.lemmas.List.{length_push, length-map, map-append, get_or_push, append-nil}
 use Rattle.std.proofs.lemmas.List.Elements.{recursion_from_All}
 use Rattle.lists.specs.declared.NoMemory.{NoMemory}
-use Rattle.index_lists.specs.Rings.{with_cell, IsInside}
+use Rattle.index_lists.specs.Rings.{with_cell}
 use Rattle.index_lists.proofs.Rounds.{length-with_cell}
 use Rattle.tree_model.specs.declared.tree.Symbol.{Symbol}
 use Rattle.term_graph.specs.declared.bound.Bound.{Bound}
-use Rattle.term_graph.specs.declared.bound.Bound.TheVariants.{Term}
 use Rattle.term_graph.specs.declared.term.Term.{Term as Made}
-use Rattle.term_graph.specs.declared.parts.Slot.{Slot}
-use Rattle.term_graph.specs.declared.parts.Cell.{Cell}
 use Rattle.term_graph.specs.declared.parts.Mention.{Mention}
 use Rattle.term_graph.specs.declared.key.Key.{Key}
 use Rattle.term_graph.specs.declared.change.Change.{Change}
 use Rattle.term_graph.specs.declared.change.Change.TheVariants.{Interned}
-use Rattle.term_graph.specs.Contents.{History, grown, with_term, root, target_of, binding_of, term_at, no_term, each, once_for, IsForest, IsLeader, IsInterned}
+use Rattle.term_graph.specs.Contents.{History, grown, with_term, root, target_of, term_at, no_term, each, once_for, IsForest, IsLeader, IsInterned}
 use Rattle.term_graph.specs.Contents.Step.{Interns}
 use Rattle.term_graph.specs.Keys.{sign_of, is_key_of, shared_at}
-use Rattle.term_graph.specs.Fields.{Fields, made, mentions, mention_next, cut_off, last_count, heads_of, owners_of, mentions_of, bindings_of, uses_in, uses_seen, seen, undone, history}
+use Rattle.term_graph.specs.Fields.{Fields, made, mentions, mention_next, last_count, heads_of, owners_of, mentions_of, bindings_of, uses_in, uses_seen, seen, undone, history}
 use Rattle.term_graph.specs.Good.{AreRinged, AreRoots, IsGood, AreGood, Fits, IsInternedIn}
 use Rattle.term_graph.proofs.Adding.{undone-pushed}
 use Rattle.term_graph.proofs.Forests.{root-within, leads_to_root}

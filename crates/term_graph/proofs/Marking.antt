@@ -1,8 +1,7 @@
 -- A mark more, and slots with the same bindings and cells.
-use Rattle.std.proofs.Common.{◌≡◌, ℕ, ◌<◌, List, [], ◌∷◌, ◌++◌, true, false, length, set, get_or, refl, sym, ◌∙◌, ap, map, length-set, get_or-set_same}
+use Rattle.std.proofs.Common.{◌≡◌, ℕ, ◌<◌, List, [], ◌∷◌, ◌++◌, false, length, set, get_or, refl, sym, ◌∙◌, ap, map, length-set, get_or-set_same}
 use Rattle.std.specs.Prelude.{reverse, Result, Ok, Err, OnOk, OnErr}
-use Rattle.std.proofs.lemmas.List.{set-set, set-get_or, map-set, get_or-map, length-map}
-use Rattle.term_graph.specs.declared.bound.Bound.{Bound}
+use Rattle.std.proofs.lemmas.List.{set-set, set-get_or, map-set, get_or-map}
 use Rattle.term_graph.specs.Contents.{History, grown, with_mark, marked}
 use Rattle.term_graph.specs.Contents.Step.{MarkedAt}
 use Rattle.term_graph.specs.Fields.{Fields, free, slot_at, with_slots, with_finite, without_finite, seen, undone, history, bindings_of, heads_of, uses_seen}

@@ -1,18 +1,18 @@
 -- The rings of the classes: a variable, a mention or a binding more.
-use Rattle.std.proofs.Common.{◌≡◌, ◌≢◌, ℕ, zero, suc, ◌+◌, ◌<◌, ◌≤◌, List, [], ◌∷◌, ◌++◌, length, set, get_or, refl, sym, ◌∙◌, ap, subst, inl, inr, arith, length-set}
-use Rattle.std.specs.Prelude.{Option, Some, None, Contains}
+use Rattle.std.proofs.Common.{◌≡◌, ◌≢◌, ℕ, zero, suc, ◌+◌, ◌<◌, List, [], ◌∷◌, ◌++◌, length, set, get_or, refl, sym, ◌∙◌, ap, subst, inl, inr, arith, length-set}
+use Rattle.std.specs.Prelude.{None, Contains}
 use Rattle.std.specs.List.{AllByRecursion}
 use Rattle.std.proofs.lemmas.Bool.{cases_eq}
 use Rattle.std.proofs.lemmas.List.{get_or_append_left, get_or_push, get_or_past, length_push}
 use Rattle.std.proofs.lemmas.List.Elements.{Contains-append_left, Contains-append_right, Contains-append_cases}
-use Rattle.index_lists.specs.Rings.{IsRound, IsInside, exchanged, with_cell}
+use Rattle.index_lists.specs.Rings.{IsRound, exchanged, with_cell}
 use Rattle.index_lists.proofs.Exchanging.{length-exchanged}
 use Rattle.index_lists.proofs.Rounds.{all_both, all_weaker, all_pair, absent_from, round_joined, round_other, exchanged-inside, round_alone, round_added, added-inside, with_cell-round, with_cell-other, with_cell-inside, length-with_cell}
 use Rattle.term_graph.specs.declared.bound.Bound.{Bound}
 use Rattle.term_graph.specs.declared.bound.Bound.TheVariants.{Free, Variable}
 use Rattle.term_graph.specs.Contents.{target, target_of, root, follow, onward, IsForest, Leads}
 use Rattle.term_graph.specs.Good.{IsClass, AreRinged}
-use Rattle.term_graph.proofs.Forests.{forest_added, added-target, root_of_root, root-added, root-within, leads_to_root, leads_open, leads_root, forest_bound, bound-same, bound-other, root-joined, root-kept}
+use Rattle.term_graph.proofs.Forests.{forest_added, added-target, root_of_root, root-added, root-within, leads_to_root, forest_bound, bound-same, bound-other, root-joined, root-kept}
 use Rattle.term_graph.proofs.Reading.{round_within}
 
 pub contains_first : (x : ℕ) (xs : List ℕ) → Contains (x ∷ xs) x

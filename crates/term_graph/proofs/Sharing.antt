@@ -1,20 +1,19 @@
 -- The leaders in the sharing table.
-use Rattle.std.proofs.Common.{ℕ, suc, ◌≡◌, ◌≢◌, ◌<◌, ◌≤◌, ◌+◌, Bool, true, false, List, [], ◌∷◌, ◌++◌, length, map, get_or, refl, sym, ap, ◌∙◌, subst, inl, inr, ◌⊎◌, Some, None, arith}
+use Rattle.std.proofs.Common.{ℕ, suc, ◌≡◌, ◌<◌, List, [], ◌∷◌, ◌++◌, length, map, get_or, refl, sym, ◌∙◌, subst, inl, inr, ◌⊎◌, Some, None, arith}
 use Rattle.std.specs.Prelude.{Option}
 use Rattle.std.specs.List.{AllByRecursion}
-use Rattle.std.specs.Map.{lookup}
-use Rattle.std.proofs.lemmas.Bool.{cases_lt, cases_eq}
-use Rattle.std.proofs.lemmas.List.{get_or_append_left, get_or_push, length_push}
+use Rattle.std.proofs.lemmas.Bool.{cases_lt}
+use Rattle.std.proofs.lemmas.List.{length_push}
 use Rattle.tree_model.specs.declared.tree.Symbol.{Symbol}
 use Rattle.term_graph.specs.declared.bound.Bound.{Bound}
 use Rattle.term_graph.specs.declared.bound.Bound.TheVariants.{Free}
 use Rattle.term_graph.specs.declared.term.Term.{Term as Made}
 use Rattle.term_graph.specs.declared.key.Key.{Key}
-use Rattle.term_graph.specs.Contents.{root, target_of, term_at, no_term, HasKey, IsLeader, IsForest}
+use Rattle.term_graph.specs.Contents.{root, target_of, term_at, HasKey, IsLeader, IsForest}
 use Rattle.term_graph.specs.Keys.{sign_of, is_key_of, shared_at}
 use Rattle.term_graph.specs.Good.{AreRoots, IsShared}
 use Rattle.term_graph.proofs.Forests.{root-added, root-within, leads_to_root, added-target}
-use Rattle.term_graph.proofs.Keying.{key_tells, key_same, lookup_found, lookup_old, lookup_new, all_pushed, all_each, sign_once, true_or_false}
+use Rattle.term_graph.proofs.Keying.{key_tells, lookup_found, all_each}
 
 pub map_same : (f g : ℕ → ℕ) → ((x : ℕ) → f x ≡ g x) → (xs : List ℕ) → map f xs ≡ map g xs
 map_same f g h [] = refl

@@ -1,14 +1,14 @@
 -- A free variable bound to a term.
-use Rattle.std.proofs.Common.{◌≡◌, ◌≢◌, ℕ, ◌<◌, List, [], ◌∷◌, ◌++◌, length, set, get_or, refl, sym, ◌∙◌, ap, subst, inl, inr, Some, None, map, length-set, get_or-set_same, get_or-set_other}
-use Rattle.std.specs.Prelude.{reverse, Option, Result, Ok, Err, OnOk, OnErr}
+use Rattle.std.proofs.Common.{◌≡◌, ℕ, ◌<◌, List, [], ◌∷◌, ◌++◌, length, set, get_or, refl, sym, ◌∙◌, ap, subst, inl, inr, map, length-set, get_or-set_same, get_or-set_other}
+use Rattle.std.specs.Prelude.{reverse, Result, Ok, Err, OnOk, OnErr}
 use Rattle.std.proofs.lemmas.Bool.{cases_eq}
 use Rattle.std.proofs.lemmas.List.{set-set, set-get_or, map-set, get_or-map, length-map}
 use Rattle.term_graph.specs.declared.bound.Bound.{Bound}
-use Rattle.term_graph.specs.declared.bound.Bound.TheVariants.{Free, Variable, Term}
+use Rattle.term_graph.specs.declared.bound.Bound.TheVariants.{Free, Term}
 use Rattle.term_graph.specs.declared.parts.Slot.{Slot}
 use Rattle.term_graph.specs.declared.change.Change.{Change}
 use Rattle.term_graph.specs.declared.change.Change.TheVariants.{Termed}
-use Rattle.term_graph.specs.Contents.{History, grown, each, root, target, target_of, binding_of, bound_to_term}
+use Rattle.term_graph.specs.Contents.{History, grown, each, target, target_of, binding_of, bound_to_term}
 use Rattle.term_graph.specs.Contents.Step.{BoundAt}
 use Rattle.term_graph.specs.Fields.{Fields, free, slot_at, with_slots, bound_to, rebound, seen, undone, history, bindings_of, heads_of, mentions_of, uses_seen, uses_in, used, round_of}
 use Rattle.term_graph.specs.Good.{IsGood, AreGood}

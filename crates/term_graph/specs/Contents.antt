@@ -1,5 +1,5 @@
 -- What a graph holds now, and what it held at each earlier length of its trail.
-use Rattle.std.specs.Prelude.{◌≡◌, ℕ, zero, suc, ◌<◌, ◌≤◌, Bool, true, false, List, [], ◌∷◌, ◌++◌, length, map, take, slice_index_or, slice_set, Option, Some, None, if◌then◌else◌, cond, nat_eq, ◌||◌, ◌⊎◌}
+use Rattle.std.specs.Prelude.{◌≡◌, ℕ, zero, suc, ◌<◌, ◌≤◌, Bool, true, false, List, [], ◌∷◌, ◌++◌, length, map, take, slice_index_or, slice_set, Option, Some, None, if◌then◌else◌, cond, nat_eq, ◌⊎◌}
 use Rattle.tree_model.specs.declared.tree.Symbol.{Symbol}
 use Rattle.tree_model.specs.declared.tree.Symbol.TheVariants as symbols
 use Rattle.term_graph.specs.declared.bound.Bound.{Bound}

@@ -1,13 +1,12 @@
 -- The contents read off the fields, and how a change is taken back.
-use Rattle.std.specs.Prelude.{◌≡◌, ◌≢◌, Option, Some, None, cond, nat_eq, ℕ, zero, suc, ◌+◌, ◌-◌, ◌<◌, ◌≤◌, drop, true, false, List, [], ◌∷◌, ◌++◌, length, map, take, slice_index, slice_index_or, slice_set}
+use Rattle.std.specs.Prelude.{Option, Some, None, cond, nat_eq, ℕ, zero, suc, ◌+◌, ◌-◌, drop, true, false, List, [], ◌∷◌, ◌++◌, length, map, take, slice_index, slice_index_or, slice_set}
 use Rattle.term_graph.specs.declared.bound.Bound.{Bound}
-use Rattle.term_graph.specs.declared.bound.Bound.TheVariants.{Free, Variable, Term}
+use Rattle.term_graph.specs.declared.bound.Bound.TheVariants.{Free}
 use Rattle.term_graph.specs.declared.term.Term.{Term as Made}
 use Rattle.term_graph.specs.declared.parts.Slot.{Slot}
 use Rattle.term_graph.specs.declared.parts.Cell.{Cell}
 use Rattle.term_graph.specs.declared.parts.Mention.{Mention}
 use Rattle.term_graph.specs.declared.parts.Parts.{Parts}
-use Rattle.term_graph.specs.declared.change.Join.{Join}
 use Rattle.term_graph.specs.declared.change.Change.{Change}
 use Rattle.term_graph.specs.declared.change.Change.TheVariants.{Added, Interned, Termed, Joined, Marked}
 use Rattle.term_graph.specs.declared.key.Key.{Key}

@@ -1,9 +1,9 @@
 -- What is true of the fields of every graph.
-use Rattle.std.specs.Prelude.{◌≡◌, ◌<◌, ◌≤◌, ◌+◌, ◌-◌, ℕ, Option, Some, None, List, [], ◌∷◌, ◌++◌, ◌⊎◌, Contains, All, length, slice_index, slice_index_or}
+use Rattle.std.specs.Prelude.{◌≡◌, ◌<◌, ◌≤◌, ℕ, Option, Some, None, List, [], ◌∷◌, ◌++◌, ◌⊎◌, Contains, length, slice_index, slice_index_or}
 use Rattle.std.specs.List.{AllByRecursion}
 use Rattle.tree_model.specs.declared.tree.Symbol.{Symbol}
 use Rattle.term_graph.specs.declared.bound.Bound.{Bound}
-use Rattle.term_graph.specs.declared.bound.Bound.TheVariants.{Free, Variable, Term}
+use Rattle.term_graph.specs.declared.bound.Bound.TheVariants.{Term}
 use Rattle.term_graph.specs.declared.term.Term.{Term as Made}
 use Rattle.term_graph.specs.declared.parts.Mention.{Mention}
 use Rattle.term_graph.specs.declared.change.Change.{Change}

@@ -1,4 +1,4 @@
-use Rattle.std.proofs.Common.{◌∙◌, sym}
+use Rattle.std.proofs.Common.{◌∙◌}
 use Rattle.indexmap.proofs.CallerLemmas.{insert_entry-new}
 use Rattle.term_graph.specs.contracts.key.KeyPartialEq.TheImpl as impl
 use Rattle.term_graph.proofs.Keying.{lookup_key_as}

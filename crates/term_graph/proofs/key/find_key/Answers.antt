@@ -1,4 +1,4 @@
-use Rattle.std.proofs.Common.{◌∙◌, sym}
+use Rattle.std.proofs.Common.{◌∙◌}
 use Rattle.term_graph.proofs.Keying.{lookup_key_as}
 use Rattle.term_graph.proofs.key.find_key.Goals as goal
 

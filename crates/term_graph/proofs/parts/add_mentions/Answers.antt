@@ -1,7 +1,6 @@
-use Rattle.std.proofs.Common.{◌≡◌, ◌<◌, ◌∙◌, ap, length, arith}
-use Rattle.index_lists.specs.Rings.{with_cell}
-use Rattle.term_graph.proofs.Interning.{mention_fits, rings_long, cells_long, rings_step, cells_step, rings_back, cells_back_at, take_whole}
-use Rattle.term_graph.specs.Fields.{heads_of, mentions, mention_next, cut_off}
+use Rattle.std.proofs.Common.{◌∙◌, ap, length, arith}
+use Rattle.term_graph.proofs.Interning.{mention_fits, rings_long, cells_long, rings_step, cells_step, rings_back, cells_back_at}
+use Rattle.term_graph.specs.Fields.{cut_off}
 use Rattle.term_graph.proofs.parts.add_mentions.Goals as goal
 
 pub add_mention-requires : goal.add_mention-requires

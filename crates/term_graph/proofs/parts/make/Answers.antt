@@ -1,4 +1,4 @@
-use Rattle.std.proofs.Common.{◌≡◌, ◌∙◌, ap, length, refl}
+use Rattle.std.proofs.Common.{◌∙◌, refl}
 use Rattle.term_graph.specs.Fields.{fields}
 use Rattle.term_graph.proofs.Interning.{whole_cells_long, whole_cells_back, whole_rings_long, whole_rings_back, fields_as, keys_back}
 use Rattle.term_graph.proofs.parts.make.Goals as goal

@@ -1,7 +1,7 @@
 use Rattle.std.proofs.Common.{length, map, sym, subst}
 use Rattle.std.proofs.lemmas.List.{length-map}
 use Rattle.term_graph.specs.Contents.{root, IsLeader}
-use Rattle.term_graph.specs.Fields.{fields, bindings_of}
+use Rattle.term_graph.specs.Fields.{bindings_of}
 use Rattle.term_graph.proofs.Making.{roots_are, all_within, key_found}
 use Rattle.term_graph.proofs.parts.shared.Goals as goal
 

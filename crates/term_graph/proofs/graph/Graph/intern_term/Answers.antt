@@ -1,6 +1,5 @@
-use Rattle.std.proofs.Common.{◌≡◌, length, map, sym, ap}
+use Rattle.std.proofs.Common.{length, map, sym, ap}
 use Rattle.std.specs.Prelude.{reverse}
-use Rattle.std.proofs.lemmas.List.{length-map}
 use Rattle.term_graph.specs.Contents.{root}
 use Rattle.term_graph.specs.Fields.{fields, bindings_of}
 use Rattle.term_graph.proofs.Making.{interned-good_by, interned-now_by, roots_are, all_within}
