@@ -28,7 +28,8 @@ pub length-mentions : (t i : ℕ) (as' : List ℕ) → length (mentions t i as')
 length-mentions t i [] = refl
 length-mentions t i (a ∷ as') = ap suc (length-mentions t (i + 1) as')
 
-pub mentions-push : (t i : ℕ) (as' : List ℕ) (a : ℕ) → mentions t i (as' ++ a ∷ []) ≡ mentions t i as' ++ record { variable = a; mention = Some (record { term = t; place = i + length as' }) } ∷ []
+pub mentions-push : (t i : ℕ) (as' : List ℕ) (a : ℕ)
+    → mentions t i (as' ++ a ∷ []) ≡ mentions t i as' ++ record { variable = a; mention = Some (record { term = t; place = i + length as' }) } ∷ []
 mentions-push t i [] a = let e : i ≡ i + 0 = omega arith in ap (λ z. record { variable = a; mention = Some (record { term = t; place = z }) } ∷ []) e
 mentions-push t i (x ∷ xs) a =
     let e : (i + 1) + length xs ≡ i + length (x ∷ xs) = omega arith in
@@ -56,7 +57,8 @@ AreIn n heads k as' = AllByRecursion (λ a. (a < n) × (get_or heads a 0 < k)) a
 are_in_more : (n : ℕ) (heads : List ℕ) (k j : ℕ) (as' : List ℕ) → k ≤ j → AreIn n heads k as' → AreIn n heads j as'
 are_in_more n heads k j as' l h = all_each (λ a. (a < n) × (get_or heads a 0 < k)) (λ a. (a < n) × (get_or heads a 0 < j)) (λ a p. (p.0, (let q = p.1 in omega arith))) as' h
 
-pub next_good : (n : ℕ) (heads as' next : List ℕ) → IsInside next → AreIn n heads (length next) as' → IsInside (mention_next heads as' next) × (length (mention_next heads as' next) ≡ length next + length as')
+pub next_good : (n : ℕ) (heads as' next : List ℕ) → IsInside next → AreIn n heads (length next) as'
+    → IsInside (mention_next heads as' next) × (length (mention_next heads as' next) ≡ length next + length as')
 next_good n heads [] next inside h = (inside, omega arith)
 next_good n heads (a ∷ as') next inside h =
     let l = length-with_cell next inside (get_or heads a 0) h.0.1 in
@@ -95,7 +97,8 @@ module _ (b : List Bound) (heads : List ℕ) where
       (ringed_mentions as' (owners ++ a ∷ []) (with_cell (get_or heads a 0) next) (ringed_mention b heads owners next g a h.0.0 h.0.1) h.1)
 
   -- the uses with one mention more
-  module _ (owners next : List ℕ) (ms : List (Option Mention)) (g : AreRinged b heads owners next) (n : length ms ≡ length next) (m : Mention) (a : ℕ) (al : a < length b) (ao : target_of b a ≡ None) (u : ℕ) (ul : u < length b) where
+  module _ (owners next : List ℕ) (ms : List (Option Mention)) (g : AreRinged b heads owners next) (n : length ms ≡ length next) (m : Mention) (a : ℕ)
+      (al : a < length b) (ao : target_of b a ≡ None) (u : ℕ) (ul : u < length b) where
     abbrev now : List ℕ
     now = with_cell (get_or heads a 0) next
 
@@ -116,7 +119,8 @@ module _ (b : List Bound) (heads : List ℕ) where
         let e' : IsRound now (get_or heads (root b u) 0) (length next ∷ (subst (IsClass b heads owners next) e k).rest) = subst (λ z. IsRound now (get_or heads z 0) (length next ∷ (subst (IsClass b heads owners next) e k).rest)) (sym e) (round_a b heads owners next g a al ao (subst (IsClass b heads owners next) e k)) in
         uses_by (subst (IsClass b heads owners next) e k) e e'
       where
-        uses_by : (c : IsClass b heads owners next a) → root b u ≡ a → IsRound now (get_or heads (root b u) 0) (length next ∷ c.rest) → uses_in b heads (ms ++ Some m ∷ []) now u ≡ m.term ∷ uses_in b heads ms next u
+        uses_by : (c : IsClass b heads owners next a) → root b u ≡ a → IsRound now (get_or heads (root b u) 0) (length next ∷ c.rest)
+            → uses_in b heads (ms ++ Some m ∷ []) now u ≡ m.term ∷ uses_in b heads ms next u
         uses_by c e r =
             let w : AllByRecursion (λ x. x < length ms) c.rest = all_each (λ x. x < length next) (λ x. x < length ms) (λ x p. rw n p) c.rest (rest_within b heads owners next g a al c) in
             let o : IsRound next (get_or heads (root b u) 0) c.rest = subst (λ z. IsRound next (get_or heads z 0) c.rest) (sym e) c.round in
@@ -132,7 +136,8 @@ module _ (b : List Bound) (heads : List ℕ) where
 pub head_is : (slots : List Slot) (v : ℕ) (s : Slot) → v < length slots → s ≡ get_or slots v s → s.cell ≡ get_or (heads_of slots) v 0
 head_is slots v s l e = ap (λ x. x.cell) e ∙ sym (get_or-map (λ x. x.cell) slots v s 0 l)
 
-module _ (slots : List Slot) (as' initial rings : List ℕ) (i v : ℕ) (s : Slot) (inside : IsInside initial) (h : AreIn (length slots) (heads_of slots) (length initial) as') (l : i < length as') (ve : v ≡ get_or as' i 0) (se : s ≡ get_or slots v s)
+module _ (slots : List Slot) (as' initial rings : List ℕ) (i v : ℕ) (s : Slot) (inside : IsInside initial)
+    (h : AreIn (length slots) (heads_of slots) (length initial) as') (l : i < length as') (ve : v ≡ get_or as' i 0) (se : s ≡ get_or slots v s)
     (re : rings ≡ mention_next (heads_of slots) (take i as') initial) where
   first_good : IsInside (mention_next (heads_of slots) (take i as') initial) × (length (mention_next (heads_of slots) (take i as') initial) ≡ length initial + length (take i as'))
   first_good = next_good (length slots) (heads_of slots) (take i as') initial inside (all_take (λ a. (a < length slots) × (get_or (heads_of slots) a 0 < length initial)) i as' h)
@@ -160,7 +165,8 @@ module _ (slots : List Slot) (as' initial rings : List ℕ) (i v : ℕ) (s : Slo
       let c : s.cell ≡ get_or (heads_of slots) (get_or as' i 0) 0 = cell_is ∙ ap (λ z. get_or (heads_of slots) z 0) ve in
       e ∙ rw (c, re) refl ∙ sym (next-push (heads_of slots) (take i as') initial (get_or as' i 0)) ∙ ap (λ z. mention_next (heads_of slots) z initial) (sym t)
 
-  pub cells_step : (t : ℕ) (start cells cells' : List Cell) → cells ≡ start ++ mentions t 0 (take i as') → cells' ≡ cells ++ record { variable = v; mention = Some (record { term = t; place = i }) } ∷ [] → cells' ≡ start ++ mentions t 0 (take (i + 1) as')
+  pub cells_step : (t : ℕ) (start cells cells' : List Cell) → cells ≡ start ++ mentions t 0 (take i as')
+      → cells' ≡ cells ++ record { variable = v; mention = Some (record { term = t; place = i }) } ∷ [] → cells' ≡ start ++ mentions t 0 (take (i + 1) as')
   cells_step t start cells cells' e f =
       let q : take (i + 1) as' ≡ take i as' ++ get_or as' i 0 ∷ [] = take_more as' i 0 l in
       let n : 0 + length (take i as') ≡ i = omega (arith, length-take-le i as' (omega arith)) in
@@ -187,7 +193,8 @@ module _ (slots : List Slot) (as' initial rings : List ℕ) (i v : ℕ) (s : Slo
 pub take_whole : (xs : List ℕ) (i : ℕ) → i ≡ length xs → take i xs ≡ xs
 take_whole xs i e = take_all i xs (omega arith)
 
-pub roots_step : (b : List Bound) (as' : List ℕ) (i : ℕ) → i < length as' → (keys keys' : List ℕ) (r : ℕ) → keys ≡ map (root b) (take i as') → keys' ≡ keys ++ r ∷ [] → r ≡ root b (get_or as' i 0) → keys' ≡ map (root b) (take (i + 1) as')
+pub roots_step : (b : List Bound) (as' : List ℕ) (i : ℕ) → i < length as' → (keys keys' : List ℕ) (r : ℕ) → keys ≡ map (root b) (take i as')
+    → keys' ≡ keys ++ r ∷ [] → r ≡ root b (get_or as' i 0) → keys' ≡ map (root b) (take (i + 1) as')
 roots_step b as' i l keys keys' r e f g =
     let q : take (i + 1) as' ≡ take i as' ++ get_or as' i 0 ∷ [] = take_more as' i 0 l in
     f ∙ rw (e, g) refl ∙ sym (map-append (root b) (take i as') (get_or as' i 0 ∷ [])) ∙ ap (map (root b)) (sym q)
@@ -196,16 +203,20 @@ roots_step b as' i l keys keys' r e f g =
 pub whole_cells_long : (t n : ℕ) (as' : List ℕ) (start cells : List Cell) → n ≡ length as' → cells ≡ start ++ mentions t 0 as' → n ≤ length cells
 whole_cells_long t n as' start cells e f = let k = ap length f in omega (arith, length-append start (mentions t 0 as'), length-mentions t 0 as')
 
-pub whole_cells_back : (t n : ℕ) (as' : List ℕ) (start cells : List Cell) → n ≡ length as' → cells ≡ start ++ mentions t 0 as' → take (length cells - n) cells ≡ start
+pub whole_cells_back : (t n : ℕ) (as' : List ℕ) (start cells : List Cell) → n ≡ length as' → cells ≡ start ++ mentions t 0 as'
+    → take (length cells - n) cells ≡ start
 whole_cells_back t n as' start cells e f = ap (λ z. take (length z - n) z) f ∙ cells_back start t 0 n as' e
 
-pub whole_rings_long : (slots : List Slot) (n : ℕ) (as' initial rings : List ℕ) → n ≡ length as' → IsInside initial → AreIn (length slots) (heads_of slots) (length initial) as' → rings ≡ mention_next (heads_of slots) as' initial → n ≤ length rings
+pub whole_rings_long : (slots : List Slot) (n : ℕ) (as' initial rings : List ℕ) → n ≡ length as' → IsInside initial
+    → AreIn (length slots) (heads_of slots) (length initial) as' → rings ≡ mention_next (heads_of slots) as' initial → n ≤ length rings
 whole_rings_long slots n as' initial rings e inside h f = let k = (next_good (length slots) (heads_of slots) as' initial inside h).1 in let r = ap length f in omega arith
 
-pub whole_rings_back : (slots : List Slot) (n : ℕ) (as' initial rings : List ℕ) → n ≡ length as' → IsInside initial → AreIn (length slots) (heads_of slots) (length initial) as' → rings ≡ mention_next (heads_of slots) as' initial → cut_off n rings ≡ initial
+pub whole_rings_back : (slots : List Slot) (n : ℕ) (as' initial rings : List ℕ) → n ≡ length as' → IsInside initial
+    → AreIn (length slots) (heads_of slots) (length initial) as' → rings ≡ mention_next (heads_of slots) as' initial → cut_off n rings ≡ initial
 whole_rings_back slots n as' initial rings e inside h f = ap (cut_off n) f ∙ ap (λ k. cut_off k (mention_next (heads_of slots) as' initial)) e ∙ cut_back (length slots) (heads_of slots) as' initial inside h
 
-pub fields_as : (f : Fields) (terms : List Made) (cells : List Cell) (next : List ℕ) (entries : List (Key × ℕ)) → terms ≡ f.terms → cells ≡ f.cells → next ≡ f.next → entries ≡ f.entries → record { slots = f.slots; terms = terms; cells = cells; next = next; entries = entries; lowered = f.lowered } ≡ f
+pub fields_as : (f : Fields) (terms : List Made) (cells : List Cell) (next : List ℕ) (entries : List (Key × ℕ)) → terms ≡ f.terms → cells ≡ f.cells
+    → next ≡ f.next → entries ≡ f.entries → record { slots = f.slots; terms = terms; cells = cells; next = next; entries = entries; lowered = f.lowered } ≡ f
 fields_as f terms cells next entries o p q r = rw (o, p, q, r) refl
 
 pub keys_back : (es fs gs : List (Key × ℕ)) (e : Key × ℕ) (n : ℕ) → n ≡ length es → fs ≡ es ++ e ∷ [] → gs ≡ take n fs → gs ≡ es
@@ -222,7 +233,8 @@ at-mentions t i (suc j) (a ∷ as') l =
 pub get_or_right : {X : Type 0} (xs ys : List X) (i j : ℕ) (d : X) → j ≡ length xs + i → get_or (xs ++ ys) j d ≡ get_or ys i d
 get_or_right xs ys i j d e = ap (λ z. get_or (xs ++ ys) z d) e ∙ get_or-append-add xs ys i d
 
-module _ (heads owners : List ℕ) (terms : List Made) (ms : List (Option Mention)) (g : AreMentioned heads owners terms ms) (inside : (v : ℕ) → v < length heads → get_or heads v 0 < length ms) (term : Made) where
+module _ (heads owners : List ℕ) (terms : List Made) (ms : List (Option Mention)) (g : AreMentioned heads owners terms ms)
+    (inside : (v : ℕ) → v < length heads → get_or heads v 0 < length ms) (term : Made) where
   abbrev ns : List (Option Mention)
   ns = mentions_of (mentions (length terms) 0 term.args)
 
@@ -299,7 +311,8 @@ module _ (heads owners : List ℕ) (terms : List Made) (ms : List (Option Mentio
   }
 
 -- the table with the new term
-module _ (b : List Bound) (terms : List Made) (entries : List (Key × ℕ)) (h : IsShared b terms entries) (symbol : Symbol) (keys : List ℕ) (roots : AreRoots b keys) (key : Key) (ks : key.sign ≡ sign_of symbol) (ka : key.args.items ≡ keys) (absent : shared_at entries symbol keys ≡ None) where
+module _ (b : List Bound) (terms : List Made) (entries : List (Key × ℕ)) (h : IsShared b terms entries) (symbol : Symbol) (keys : List ℕ)
+    (roots : AreRoots b keys) (key : Key) (ks : key.sign ≡ sign_of symbol) (ka : key.args.items ≡ keys) (absent : shared_at entries symbol keys ≡ None) where
   abbrev term : Made
   term = record { symbol = symbol; args = keys }
 
@@ -343,7 +356,8 @@ module _ (b : List Bound) (terms : List Made) (entries : List (Key × ℕ)) (h :
     ],
   )
 
-  leader_at : (s : Symbol) (xs : List ℕ) (o : Option ℕ) → shared_at entries s xs ≡ o → IsLeader b terms s xs o → IsLeader b (terms ++ term ∷ []) s xs (shared_at (entries ++ entry ∷ []) s xs)
+  leader_at : (s : Symbol) (xs : List ℕ) (o : Option ℕ) → shared_at entries s xs ≡ o → IsLeader b terms s xs o
+      → IsLeader b (terms ++ term ∷ []) s xs (shared_at (entries ++ entry ∷ []) s xs)
   leader_at s xs (Some m) e k = subst (IsLeader b (terms ++ term ∷ []) s xs) (sym (lookup_old (is_key_of (sign_of s) xs) entries (entry ∷ []) m e)) (leader_old s xs m k)
   leader_at s xs None e k = subst (IsLeader b (terms ++ term ∷ []) s xs) (sym (lookup_new (is_key_of (sign_of s) xs) entries (entry ∷ []) e)) (elim (true_or_false (is_key_of (sign_of s) xs key)) [
     | inl t ↦ (

@@ -55,7 +55,8 @@ true_or_false false = inr refl
 
 module _ {K X : Type 0} (test : K → Bool) where
   -- what is found stands in the list
-  pub lookup_found : (P : K × X → Type 0) (es : List (K × X)) (v : X) → AllByRecursion P es → lookup test es ≡ Some v → (e : K × X) × P e × (test e.0 ≡ true) × (e.1 ≡ v)
+  pub lookup_found : (P : K × X → Type 0) (es : List (K × X)) (v : X) → AllByRecursion P es → lookup test es ≡ Some v
+      → (e : K × X) × P e × (test e.0 ≡ true) × (e.1 ≡ v)
   lookup_found P [] v h f = let g : None ≡ Some v = f in absurd (cc)
   lookup_found P (e ∷ es) v h f = elim (true_or_false (test e.0)) [
     | inl t ↦ (e, h.0, t, (let g : Some e.1 ≡ Some v = rw t at f in cc))
@@ -86,7 +87,8 @@ all_each P Q f [] h = tt
 all_each P Q f (x ∷ xs) h = (f x h.0, all_each P Q f xs h.1)
 
 -- `==` of keys
-equal_parts : (s t : Sign) (a b : Key) → impl.eq-value.it (record a { sign = s }) (record b { sign = t }) ≡ (is_same_sign s t && pointwise nat_eq a.args.items b.args.items)
+equal_parts : (s t : Sign) (a b : Key)
+    → impl.eq-value.it (record a { sign = s }) (record b { sign = t }) ≡ (is_same_sign s t && pointwise nat_eq a.args.items b.args.items)
 equal_parts (Named m) (Named n) a b = refl
 equal_parts (Named m) (Further n) a b = refl
 equal_parts (Further m) (Named n) a b = refl

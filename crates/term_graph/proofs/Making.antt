@@ -85,7 +85,8 @@ module _ (f : Fields) (g : IsGood f) where
   heads_in : (v : ℕ) → v < length heads → get_or heads v 0 < length ms
   heads_in v l = (let k = (g.ringed.head v (rw g.ringed.variables at l)).0 in let e = g.mentioned.cells in let c = g.ringed.cells in omega arith)
 
-  module _ (symbol : Symbol) (keys : List ℕ) (roots : AreRoots b keys) (key : Key) (ks : key.sign ≡ sign_of symbol) (ka : key.args.items ≡ keys) (absent : shared_at f.entries symbol keys ≡ None) where
+  module _ (symbol : Symbol) (keys : List ℕ) (roots : AreRoots b keys) (key : Key) (ks : key.sign ≡ sign_of symbol) (ka : key.args.items ≡ keys)
+      (absent : shared_at f.entries symbol keys ≡ None) where
     abbrev term : Made
     term = record { symbol = symbol; args = keys }
 
@@ -150,7 +151,8 @@ module _ (cs ds : List Change) (f f' : Fields) (symbol : Symbol) (keys : List �
       let k = s.2.0 in
       rw s.2.3 (AreGood-pushed cs ds Interned f (made (record { symbol = symbol; args = keys }) k f) s.3 (undone-made f g symbol keys r k s.2.1 s.2.2 s.0) (good-made f g symbol keys r k s.2.1 s.2.2 s.0) (fits-made f g symbol keys r k s.2.1 s.2.2 s.0) h)
 
-  pub interned-is : (before : History) → AreRoots (bindings_of f.slots) keys → AreGood (reverse cs) f → history (reverse cs) f ≡ before → IsInternedIn f f' cs ds symbol keys t → IsInterned before (history (reverse ds) f') symbol keys t
+  pub interned-is : (before : History) → AreRoots (bindings_of f.slots) keys → AreGood (reverse cs) f → history (reverse cs) f ≡ before
+      → IsInternedIn f f' cs ds symbol keys t → IsInterned before (history (reverse ds) f') symbol keys t
   interned-is before r h e (inl s) =
       let g = AreGood-now (reverse cs) f h in
       let k : IsLeader (bindings_of f.slots) f.terms symbol keys (Some t) = subst (IsLeader (bindings_of f.slots) f.terms symbol keys) s.0 (g.shared.leaders symbol keys r) in
@@ -166,26 +168,33 @@ module _ (cs ds : List Change) (f f' : Fields) (symbol : Symbol) (keys : List �
             ∙ ap (λ c. grown Interns c (history (reverse cs) f)) (seen-made f g symbol keys r k s.2.1 s.2.2 s.0)),
       ))
 
-pub interned-good_by : (r : Result ℕ NoMemory) (cs ds : List Change) (f f' : Fields) (symbol : Symbol) (keys : List ℕ) → AreRoots (bindings_of f.slots) keys → IfOk r (IsInternedIn f f' cs ds symbol keys) → OnErr r (f' ≡ f) → OnErr r (ds ≡ cs) → AreGood (reverse cs) f → AreGood (reverse ds) f'
+pub interned-good_by : (r : Result ℕ NoMemory) (cs ds : List Change) (f f' : Fields) (symbol : Symbol) (keys : List ℕ) → AreRoots (bindings_of f.slots) keys
+    → IfOk r (IsInternedIn f f' cs ds symbol keys) → OnErr r (f' ≡ f) → OnErr r (ds ≡ cs) → AreGood (reverse cs) f → AreGood (reverse ds) f'
 interned-good_by (Ok t) cs ds f f' symbol keys k s p q h = interned-good cs ds f f' symbol keys t k s h
 interned-good_by (Err _) cs ds f f' symbol keys k s p q h = rw (p, q) h
 
-pub interned-is_by : (r : Result ℕ NoMemory) (cs ds : List Change) (f f' : Fields) (symbol : Symbol) (keys : List ℕ) (before : History) → AreRoots (bindings_of f.slots) keys → AreGood (reverse cs) f → history (reverse cs) f ≡ before
+pub interned-is_by : (r : Result ℕ NoMemory) (cs ds : List Change) (f f' : Fields) (symbol : Symbol) (keys : List ℕ) (before : History)
+    → AreRoots (bindings_of f.slots) keys → AreGood (reverse cs) f → history (reverse cs) f ≡ before
     → IfOk r (IsInternedIn f f' cs ds symbol keys) → IfOk r (IsInterned before (history (reverse ds) f') symbol keys)
 interned-is_by (Ok t) cs ds f f' symbol keys before k h e s = interned-is cs ds f f' symbol keys t before k h e s
 interned-is_by (Err _) cs ds f f' symbol keys before k h e s = tt
 
-pub intern_by : (r : Result ℕ NoMemory) (cs ds : List Change) (f f' : Fields) (symbol : Symbol) (keys : List ℕ) (key : Key) → key.sign ≡ sign_of symbol → key.args.items ≡ keys → shared_at f.entries symbol keys ≡ None
-    → IfOk r (λ t. t ≡ length f.terms) → OnOk r (f' ≡ made (record { symbol = symbol; args = key.args.items }) key f) → OnOk r (ds ≡ cs ++ Interned ∷ []) → IfOk r (IsInternedIn f f' cs ds symbol keys)
+pub intern_by : (r : Result ℕ NoMemory) (cs ds : List Change) (f f' : Fields) (symbol : Symbol) (keys : List ℕ) (key : Key) → key.sign ≡ sign_of symbol
+    → key.args.items ≡ keys → shared_at f.entries symbol keys ≡ None
+    → IfOk r (λ t. t ≡ length f.terms) → OnOk r (f' ≡ made (record { symbol = symbol; args = key.args.items }) key f) → OnOk r (ds ≡ cs ++ Interned ∷ [])
+    → IfOk r (IsInternedIn f f' cs ds symbol keys)
 intern_by (Ok t) cs ds f f' symbol keys key s a n l p q = inr (n, l, (key, s, a, p ∙ ap (λ z. made (record { symbol = symbol; args = z }) key f) a), q)
 intern_by (Err _) cs ds f f' symbol keys key s a n l p q = tt
 
-pub key_found : (es : List (Key × ℕ)) (symbol : Symbol) (keys : List ℕ) (key : Key) (o : Option ℕ) → key.sign ≡ sign_of symbol → key.args.items ≡ keys → o ≡ lookup (is_key_of key.sign key.args.items) es → shared_at es symbol keys ≡ o
+pub key_found : (es : List (Key × ℕ)) (symbol : Symbol) (keys : List ℕ) (key : Key) (o : Option ℕ) → key.sign ≡ sign_of symbol → key.args.items ≡ keys
+    → o ≡ lookup (is_key_of key.sign key.args.items) es → shared_at es symbol keys ≡ o
 key_found es symbol keys key o s a e = sym (e ∙ ap (λ z. lookup (is_key_of z key.args.items) es) s ∙ ap (λ z. lookup (is_key_of (sign_of symbol) z) es) a)
 
 pub all_within : (n m : ℕ) (xs : List ℕ) → n ≡ m → All (λ x. x < n) xs → AllByRecursion (λ x. x < m) xs
 all_within n m xs e h = subst (λ z. AllByRecursion (λ x. x < z) xs) e (recursion_from_All (λ x. x < n) xs h)
 
-pub interned-now_by : (r : Result ℕ NoMemory) (cs ds : List Change) (f f' : Fields) (symbol : Symbol) (as' : List ℕ) (before : History) → AreRoots (bindings_of f.slots) (map (root (bindings_of f.slots)) as') → AreGood (reverse cs) f → history (reverse cs) f ≡ before
-    → IfOk r (IsInternedIn f f' cs ds symbol (map (root (bindings_of f.slots)) as')) → IfOk r (IsInterned before (history (reverse ds) f') symbol (map (root before.contents.bindings) as'))
+pub interned-now_by : (r : Result ℕ NoMemory) (cs ds : List Change) (f f' : Fields) (symbol : Symbol) (as' : List ℕ) (before : History)
+    → AreRoots (bindings_of f.slots) (map (root (bindings_of f.slots)) as') → AreGood (reverse cs) f → history (reverse cs) f ≡ before
+    → IfOk r (IsInternedIn f f' cs ds symbol (map (root (bindings_of f.slots)) as'))
+    → IfOk r (IsInterned before (history (reverse ds) f') symbol (map (root before.contents.bindings) as'))
 interned-now_by r cs ds f f' symbol as' before k h e s = rw (← e) (interned-is_by r cs ds f f' symbol (map (root (bindings_of f.slots)) as') (history (reverse cs) f) k h refl s)

@@ -55,7 +55,8 @@ kept-more es xs e = record {
   back = λ k n l m. ap (restored (drop n xs)) (take-append-le k es (e ∷ []) l);
 }
 
-pub kept-lowered : (es : List (Key × ℕ)) (xs : List Lowered) (i v t : ℕ) → value_at es i ≡ Some v → IsKept es xs (set_value_at es i t) (xs ++ record { place = i; leader = v } ∷ [])
+pub kept-lowered : (es : List (Key × ℕ)) (xs : List Lowered) (i v t : ℕ) → value_at es i ≡ Some v
+    → IsKept es xs (set_value_at es i t) (xs ++ record { place = i; leader = v } ∷ [])
 kept-lowered es xs i v t h = record {
   keys = omega (arith, length-written es i t);
   count = omega (arith, length_push xs (record { place = i; leader = v }));

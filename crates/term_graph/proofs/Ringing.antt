@@ -68,7 +68,8 @@ module _ (b : List Bound) (heads owners next : List ℕ) (g : AreRinged b heads 
     root_new : root more_b (get_or (owners ++ o ∷ []) (length next) 0) ≡ length b
     root_new = ap (root more_b) owner_new ∙ root-added b g.forest (length b) ∙ root_of_root b (length b) open_new
 
-    whole_old : (r : ℕ) → r < length b → (k : IsClass b heads owners next r) → (c : ℕ) → c < length next + 1 → root more_b (get_or (owners ++ o ∷ []) c 0) ≡ r → Contains (get_or heads r 0 ∷ k.rest) c
+    whole_old : (r : ℕ) → r < length b → (k : IsClass b heads owners next r) → (c : ℕ) → c < length next + 1 → root more_b (get_or (owners ++ o ∷ []) c 0) ≡ r
+        → Contains (get_or heads r 0 ∷ k.rest) c
     whole_old r l k c m e = elim (cases_eq c (length next)) [
       | inl i ↦ absurd (let f : length b ≡ r = sym root_new ∙ ap (λ z. root more_b (get_or (owners ++ o ∷ []) z 0)) (sym i) ∙ e in omega arith)
       | inr n ↦ (let s : c < length next = omega (arith, n) in k.whole c s (sym (root_old c s) ∙ e))
@@ -172,7 +173,8 @@ module _ (b : List Bound) (heads owners next : List ℕ) (g : AreRinged b heads 
     mention_length : length mention_next ≡ length next + 1
     mention_length = length-with_cell next g.inside (get_or heads a 0) ha
 
-    whole_a : (k : IsClass b heads owners next a) → (c : ℕ) → c < length next + 1 → root b (get_or (owners ++ a ∷ []) c 0) ≡ a → Contains (get_or heads a 0 ∷ (length next ∷ k.rest)) c
+    whole_a : (k : IsClass b heads owners next a) → (c : ℕ) → c < length next + 1 → root b (get_or (owners ++ a ∷ []) c 0) ≡ a
+        → Contains (get_or heads a 0 ∷ (length next ∷ k.rest)) c
     whole_a k c m e = elim (cases_eq c (length next)) [
       | inl i ↦ subst (λ z. Contains (get_or heads a 0 ∷ (length next ∷ k.rest)) z) (sym i) (contains_later (get_or heads a 0) (length next) (length next ∷ k.rest) (contains_first (length next) k.rest))
       | inr n ↦ (let s : c < length next = omega (arith, n) in past (get_or heads a 0) (length next) c k.rest (k.whole c s (sym (ap (root b) (owner_kept c s)) ∙ e)))

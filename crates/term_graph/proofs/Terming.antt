@@ -98,11 +98,13 @@ module _ (f : Fields) (v t : ℕ) (l : v < length f.slots) (o : binding_of (bind
     termed-is : history (reverse ds) f' ≡ grown (BoundAt v) (bound_to_term v t (seen f)) (history (reverse cs) f)
     termed-is = rw q (history-pushed cs ds (Termed v) f (with_slots now_slots f) p undone-termed ∙ ap (λ c. grown (BoundAt v) c (history (reverse cs) f)) seen-termed)
 
-  pub termed-good_by : {A E : Type 0} (r : Result A E) (cs ds : List Change) (f' : Fields) → OnOk r (f' ≡ with_slots (rebound v (Term t) f.slots) f) → OnOk r (ds ≡ cs ++ Termed v ∷ []) → OnErr r (f' ≡ f) → OnErr r (ds ≡ cs) → AreGood (reverse cs) f → AreGood (reverse ds) f'
+  pub termed-good_by : {A E : Type 0} (r : Result A E) (cs ds : List Change) (f' : Fields) → OnOk r (f' ≡ with_slots (rebound v (Term t) f.slots) f)
+      → OnOk r (ds ≡ cs ++ Termed v ∷ []) → OnErr r (f' ≡ f) → OnErr r (ds ≡ cs) → AreGood (reverse cs) f → AreGood (reverse ds) f'
   termed-good_by (Ok _) cs ds f' q p q' p' h = termed-good cs ds f' p q h
   termed-good_by (Err _) cs ds f' q p q' p' h = rw (p', q') h
 
-  pub termed-is_by : {A E : Type 0} (r : Result A E) (cs ds : List Change) (f' : Fields) (before : History) → history (reverse cs) f ≡ before → OnOk r (f' ≡ with_slots (rebound v (Term t) f.slots) f) → OnOk r (ds ≡ cs ++ Termed v ∷ [])
+  pub termed-is_by : {A E : Type 0} (r : Result A E) (cs ds : List Change) (f' : Fields) (before : History) → history (reverse cs) f ≡ before
+      → OnOk r (f' ≡ with_slots (rebound v (Term t) f.slots) f) → OnOk r (ds ≡ cs ++ Termed v ∷ [])
       → OnOk r (history (reverse ds) f' ≡ grown (BoundAt v) (bound_to_term v t before.contents) before)
   termed-is_by (Ok _) cs ds f' before e q p = rw (← e) (termed-is cs ds f' p q)
   termed-is_by (Err _) cs ds f' before e q p = tt

@@ -35,8 +35,10 @@ pub record AreRinged (bindings : List Bound) (heads owners next : List ℕ) : Ty
 pub record AreMentioned (heads owners : List ℕ) (terms : List Made) (mentions : List (Option Mention)) : Type 0 where
   pub cells : length mentions ≡ length owners
   pub own : (v : ℕ) → v < length heads → slice_index_or mentions (slice_index heads v) None ≡ None
-  pub right : (c : ℕ) (m : Mention) → slice_index_or mentions c None ≡ Some m → (m.term < length terms) × (m.place < length (term_at terms m.term).args) × (slice_index (term_at terms m.term).args m.place ≡ slice_index owners c)
-  pub all : (t i : ℕ) → t < length terms → i < length (term_at terms t).args → (c : ℕ) × (c < length owners) × (slice_index_or mentions c None ≡ Some (record { term = t; place = i }))
+  pub right : (c : ℕ) (m : Mention) → slice_index_or mentions c None ≡ Some m
+      → (m.term < length terms) × (m.place < length (term_at terms m.term).args) × (slice_index (term_at terms m.term).args m.place ≡ slice_index owners c)
+  pub all : (t i : ℕ) → t < length terms → i < length (term_at terms t).args
+      → (c : ℕ) × (c < length owners) × (slice_index_or mentions c None ≡ Some (record { term = t; place = i }))
 
 -- each of these is a variable that is its own root
 abbrev pub AreRoots : List Bound → List ℕ → Type 0
