@@ -71,7 +71,8 @@ module _ (next previous : List ℕ) (last : ℕ) (h : ArePaired next previous) (
       aside_on n (on k p) f m = m.0 f
 
   -- a way from behind x that meets the last cell
-  way_past : {stop : ℕ} (xs ys : List ℕ) (x d : ℕ) → x < last → stop ≢ last → d ≡ get_or next x 0 → Way next stop d (xs ++ last ∷ ys) → Way left stop (get_or left x 0) (xs ++ ys)
+  way_past : {stop : ℕ} (xs ys : List ℕ) (x d : ℕ) → x < last → stop ≢ last → d ≡ get_or next x 0 → Way next stop d (xs ++ last ∷ ys)
+      → Way left stop (get_or left x 0) (xs ++ ys)
   way_past {stop} [] ys x d l n f w =
       let g : get_or next x 0 ≡ last = sym f ∙ first_is w in
       let b : x ≡ before = only x (omega arith) g in
@@ -108,10 +109,12 @@ module _ (next previous : List ℕ) (last : ℕ) (h : ArePaired next previous) (
       meets n (on k p) f m = m.0 f
 
 -- the cells with the last one cut off
-pub cut_off : (xs ys zs : List Links) (n : ℕ) → length xs ≡ n + 1 → nexts ys ≡ exchanged (get_or (previouses xs) n 0) n (nexts xs) → zs ≡ take n ys → nexts zs ≡ take n (exchanged (get_or (previouses xs) n 0) n (nexts xs))
+pub cut_off : (xs ys zs : List Links) (n : ℕ) → length xs ≡ n + 1 → nexts ys ≡ exchanged (get_or (previouses xs) n 0) n (nexts xs) → zs ≡ take n ys
+    → nexts zs ≡ take n (exchanged (get_or (previouses xs) n 0) n (nexts xs))
 cut_off xs ys zs n e f g = rw (g, ← take-map (λ l. l.next) n ys, f) refl
 
-pub cut_off-linked : (xs ys zs : List Links) (n : ℕ) → length xs ≡ n + 1 → nexts ys ≡ exchanged (get_or (previouses xs) n 0) n (nexts xs) → zs ≡ take n ys → AreLinked xs → AreLinked ys → AreLinked zs
+pub cut_off-linked : (xs ys zs : List Links) (n : ℕ) → length xs ≡ n + 1 → nexts ys ≡ exchanged (get_or (previouses xs) n 0) n (nexts xs) → zs ≡ take n ys
+    → AreLinked xs → AreLinked ys → AreLinked zs
 cut_off-linked xs ys zs n e f g h k =
     let p : length (nexts xs) ≡ n + 1 = length-map xs (λ l. l.next) ∙ e in
     let b : get_or (previouses xs) n 0 < length (nexts xs) = (h.back n (omega arith)).0 in

@@ -59,7 +59,8 @@ module _ (next : List ℕ) (stop : ℕ) where
   way_once (on k p) there e = absurd (k e)
   way_once {c} {d} (on {cells = xs} k p) (on {cells = ys} l q) e = let r : xs ≡ ys = way_once p q (ap (λ i. get_or next i 0) e) in cc
 
-  off : (v n : ℕ) → ((d : ℕ) (ys : List ℕ) → Way next stop d ys → v ≡ d → length ys ≡ n) → {c : ℕ} {xs : List ℕ} → Way next stop c xs → length xs < n → AllByRecursion (λ y. eqb v y ≡ false) xs
+  off : (v n : ℕ) → ((d : ℕ) (ys : List ℕ) → Way next stop d ys → v ≡ d → length ys ≡ n) → {c : ℕ} {xs : List ℕ} → Way next stop c xs → length xs < n
+      → AllByRecursion (λ y. eqb v y ≡ false) xs
   off v n h there l = tt
   off v n h (on {c = c} {cells = xs} k p) l =
       let a : v ≢ c = λ i. (let j = h c (c ∷ xs) (on k p) i in omega arith) in
@@ -78,7 +79,8 @@ module _ (next : List ℕ) (stop : ℕ) where
       leaves_by [] h = tt
       leaves_by (y ∷ ys) h = ((λ e. (let t : eqb c y ≡ true = eq-eqb c y (sym e) in let f = h.0 in absurd (cc))), leaves_by ys h.1)
 
-  pub way_below : ((i : ℕ) → i < length next → get_or next i 0 < length next) → {c : ℕ} {xs : List ℕ} → Way next stop c xs → c < length next → (q : ℕ) → list_any (eqb q) xs ≡ true → q < length next
+  pub way_below : ((i : ℕ) → i < length next → get_or next i 0 < length next) → {c : ℕ} {xs : List ℕ} → Way next stop c xs → c < length next → (q : ℕ)
+      → list_any (eqb q) xs ≡ true → q < length next
   way_below inside there l q h = absurd (cc)
   way_below inside (on {c = c} k p) l q h = elim (cases_eq q c) [
     | inl i ↦ rw i l
@@ -155,7 +157,8 @@ module _ (next : List ℕ) (a b : ℕ) (al : a < length next) (bl : b < length n
   way_on there h q = q
   way_on {ys = ys} (on {c = c} {cells = xs} k p) h q = on h.0 (subst (λ z. Way (exchanged a b next) a z (xs ++ ys)) (sym (exchanged-other a b next c h.0 k)) (way_on p h.1 q))
 
-  way_joined : (A B : List ℕ) → Way next a (get_or next a 0) A → Way next b (get_or next b 0) B → AllByRecursion (λ x. (x ≢ a) × (x ≢ b)) A → AllByRecursion (λ x. x ≢ a) B → Way (exchanged a b next) a (get_or (exchanged a b next) a 0) (B ++ b ∷ A)
+  way_joined : (A B : List ℕ) → Way next a (get_or next a 0) A → Way next b (get_or next b 0) B → AllByRecursion (λ x. (x ≢ a) × (x ≢ b)) A
+      → AllByRecursion (λ x. x ≢ a) B → Way (exchanged a b next) a (get_or (exchanged a b next) a 0) (B ++ b ∷ A)
   way_joined A B p q m n =
       let r : Way (exchanged a b next) a (get_or next a 0) A = way_kept next a b p m in
       let s : Way (exchanged a b next) a b (b ∷ A) = on (λ e. apart (sym e)) (subst (λ z. Way (exchanged a b next) a z A) (sym (exchanged-at_b a b next bl)) r) in
@@ -183,7 +186,8 @@ module _ (next : List ℕ) (a b : ℕ) (al : a < length next) (bl : b < length n
   pub round_cut : (A B : List ℕ) → IsRound next a (B ++ b ∷ A) → IsRound (exchanged a b next) a A × IsRound (exchanged a b next) b B
   round_cut A B h = (way_rest A B h.way, way_front A B h.way)
 
-pub round_parted : (next : List ℕ) (a b : ℕ) → a < length next → b < length next → (A B : List ℕ) → IsRound next a (B ++ b ∷ A) → IsRound (exchanged a b next) a A × IsRound (exchanged a b next) b B
+pub round_parted : (next : List ℕ) (a b : ℕ) → a < length next → b < length next → (A B : List ℕ) → IsRound next a (B ++ b ∷ A)
+    → IsRound (exchanged a b next) a A × IsRound (exchanged a b next) b B
 round_parted next a b al bl A B h = round_cut next a b al bl (λ e. (all_last (λ x. x ≢ a) B (b ∷ A) (way_apart next a h.way)).0 (sym e)) A B h
 
 -- every cell has a ring: go back from it until it comes again
@@ -226,8 +230,8 @@ module _ (next : List ℕ) (inside : IsInside next) where
   added_away =
       let n : length (next ++ length next ∷ []) - 1 ≡ length next = omega (arith, length_push next (length next)) in
       let b : position_or_len (nat_eq (length next)) (next ++ length next ∷ []) ≡ length next = position_or_len_is (nat_eq (length next)) (next ++ length next ∷ []) (length next) 0 (omega (arith, length_push next (length next)))
-          (λ k l. ne_eqb (length next) (get_or (next ++ length next ∷ []) k 0) (λ e. (let f : get_or (next ++ length next ∷ []) k 0 ≡ get_or next k 0 = added-next k l in let m = inside k l in omega arith)))
-          (λ l. eq-eqb (length next) (get_or (next ++ length next ∷ []) (length next) 0) (sym (get_or_push next (length next) 0 (length next) refl))) in
+      (λ k l. ne_eqb (length next) (get_or (next ++ length next ∷ []) k 0) (λ e. (let f : get_or (next ++ length next ∷ []) k 0 ≡ get_or next k 0 = added-next k l in let m = inside k l in omega arith)))
+      (λ l. eq-eqb (length next) (get_or (next ++ length next ∷ []) (length next) 0) (sym (get_or_push next (length next) 0 (length next) refl))) in
       rw (n, b, exchanged-itself (length next) (next ++ length next ∷ [])) (take-append_seam next (length next ∷ []))
 
   way_added : {stop c : ℕ} {xs : List ℕ} → Way next stop c xs → c < length next → Way (next ++ length next ∷ []) stop c xs
@@ -260,7 +264,8 @@ module _ (next : List ℕ) (inside : IsInside next) where
     with_cell-round cells p =
         round_joined (next ++ length next ∷ []) after (length next) in_more last_in not_last cells [] (new_absent after cells al p) (round_added after cells al p) (round_alone next)
 
-    pub with_cell-other : (c : ℕ) (cells : List ℕ) → c < length next → c ≢ after → ¬ Contains cells after → IsRound next c cells → IsRound (with_cell after next) c cells
+    pub with_cell-other : (c : ℕ) (cells : List ℕ) → c < length next → c ≢ after → ¬ Contains cells after → IsRound next c cells
+        → IsRound (with_cell after next) c cells
     unfolding with_cell
     with_cell-other c cells l n k p =
         round_other (next ++ length next ∷ []) after (length next) c cells n (λ e. omega arith) k (new_absent c cells l p) (round_added c cells l p)
@@ -287,7 +292,8 @@ module _ (next : List ℕ) (inside : IsInside next) where
         let b : position_or_len (nat_eq (length next)) (exchanged after (length next) (next ++ length next ∷ [])) ≡ after = unfold with_cell in before_last in
         rw (n, b, exchanged-twice after (length next) (next ++ length next ∷ []) in_more last_in) (take-append_seam next (length next ∷ []))
 
-pub with_cell-is : (after cell : ℕ) (next more joined : List ℕ) → cell ≡ length next → more ≡ next ++ length next ∷ [] → joined ≡ exchanged after cell more → joined ≡ with_cell after next
+pub with_cell-is : (after cell : ℕ) (next more joined : List ℕ) → cell ≡ length next → more ≡ next ++ length next ∷ [] → joined ≡ exchanged after cell more
+    → joined ≡ with_cell after next
 unfolding with_cell
 with_cell-is after cell next more joined e f g = g ∙ rw (e, f) refl
 

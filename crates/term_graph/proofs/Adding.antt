@@ -1,23 +1,20 @@
 -- A variable more.
-use Rattle.std.proofs.Common.{◌≡◌, ℕ, suc, ◌+◌, ◌-◌, ◌<◌, List, [], ◌∷◌, ◌++◌, length, take, map, get_or, refl, sym, ◌∙◌, ap, arith, subst, inl, inr}
-use Rattle.std.specs.Prelude.{reverse, Option, Some, None, Result, Ok, Err, OnOk, OnErr}
+use Rattle.std.proofs.Common.{◌≡◌, ℕ, suc, ◌-◌, ◌<◌, List, [], ◌∷◌, ◌++◌, length, take, get_or, refl, sym, ◌∙◌, ap, arith, subst, inl, inr}
+use Rattle.std.specs.Prelude.{reverse, Option, None, Result, Ok, Err, OnOk, OnErr}
 use Rattle.std.specs.List.{AllByRecursion}
 use Rattle.std.proofs.lemmas.Bool.{cases_eq, cases_lt}
 use Rattle.std.proofs.lemmas.List.{take_at, length_push, map-append, get_or_append_left, get_or_push, get_or_past, length-map}
-use Rattle.index_lists.specs.Rings.{IsRound, IsInside}
+use Rattle.index_lists.specs.Rings.{IsRound}
 use Rattle.index_lists.proofs.Rounds.{added_away}
 use Rattle.term_graph.specs.declared.bound.Bound.{Bound}
-use Rattle.term_graph.specs.declared.bound.Bound.TheVariants.{Free, Variable, Term}
-use Rattle.term_graph.specs.declared.parts.Slot.{Slot}
-use Rattle.term_graph.specs.declared.parts.Cell.{Cell}
+use Rattle.term_graph.specs.declared.bound.Bound.TheVariants.{Free, Term}
 use Rattle.term_graph.specs.declared.parts.Mention.{Mention}
 use Rattle.term_graph.specs.declared.change.Change.{Change}
 use Rattle.term_graph.specs.declared.change.Change.TheVariants.{Added}
 use Rattle.term_graph.specs.Contents.{History, empty, grown, with_variable, each, root, binding_of, term_at}
 use Rattle.term_graph.specs.Contents.Step.{Grew}
-use Rattle.term_graph.specs.Fields.{Fields, added, free, own, seen, undone, history, bindings_of, heads_of, owners_of, mentions_of, uses_seen, uses_in, used, round_of}
-use Rattle.term_graph.specs.Good.{Fits, IsGood, AreGood, AreRinged, IsClass}
-use Rattle.term_graph.proofs.Forests.{root-added}
+use Rattle.term_graph.specs.Fields.{Fields, added, free, own, seen, undone, history, bindings_of, heads_of, owners_of, mentions_of, uses_seen, uses_in, used}
+use Rattle.term_graph.specs.Good.{Fits, IsGood, AreGood, AreRinged}
 use Rattle.term_graph.proofs.Keying.{all_each}
 use Rattle.term_graph.proofs.Mentioning.{mentioned_added}
 use Rattle.term_graph.proofs.Reading.{round_is, used_more, each-same, push-same}
@@ -38,11 +35,13 @@ binding_more b v = elim (cases_lt v (length b)) [
 ]
 
 -- what the uses of a variable are, by the ring of its root
-pub uses_is : (b : List Bound) (heads owners next : List ℕ) (ms : List (Option Mention)) → AreRinged b heads owners next → (u : ℕ) → u < length b → (rest : List ℕ) → IsRound next (get_or heads (root b u) 0) rest → uses_in b heads ms next u ≡ used ms rest
+pub uses_is : (b : List Bound) (heads owners next : List ℕ) (ms : List (Option Mention)) → AreRinged b heads owners next → (u : ℕ) → u < length b
+    → (rest : List ℕ) → IsRound next (get_or heads (root b u) 0) rest → uses_in b heads ms next u ≡ used ms rest
 uses_is b heads owners next ms g u l rest r = ap (used ms) (round_is next (get_or heads (root b u) 0) rest g.inside (g.head (root b u) (root_in b heads owners next g u l)).0 r)
 
 -- each argument is a variable
-pub args_in : (f : Fields) → IsGood f → (t i : ℕ) → t < length f.terms → i < length (term_at f.terms t).args → get_or (term_at f.terms t).args i 0 < length (bindings_of f.slots)
+pub args_in : (f : Fields) → IsGood f → (t i : ℕ) → t < length f.terms → i < length (term_at f.terms t).args
+    → get_or (term_at f.terms t).args i 0 < length (bindings_of f.slots)
 args_in f g t i l k =
     let w = g.mentioned.all t i l k in
     let wl = w.1 in
@@ -107,7 +106,8 @@ module _ (f : Fields) (g : IsGood f) where
     bound = rw b-more bound-more;
   }
 
-  uses-kept : (u : ℕ) → u < length f.slots → uses_in (b ++ Free ∷ []) (heads ++ length f.cells ∷ []) (ms ++ None ∷ []) (f.next ++ length f.next ∷ []) u ≡ uses_in b heads ms f.next u
+  uses-kept : (u : ℕ) → u < length f.slots
+      → uses_in (b ++ Free ∷ []) (heads ++ length f.cells ∷ []) (ms ++ None ∷ []) (f.next ++ length f.next ∷ []) u ≡ uses_in b heads ms f.next u
   uses-kept u l =
       let ul : u < length b = rw (← o-is) l in
       let k = class_of b heads owners f.next g.ringed u ul in
@@ -159,15 +159,18 @@ pub new-is : (cs : List Change) (f : Fields) → cs ≡ [] → f.slots ≡ [] �
 unfolding uses_seen
 new-is cs f p q r = rw (p, q, r) refl
 
-pub added-good_by : {A E : Type 0} (r : Result A E) (cs ds : List Change) (f f' : Fields) → OnOk r (f' ≡ added f) → OnOk r (ds ≡ cs ++ Added ∷ []) → OnErr r (f' ≡ f) → OnErr r (ds ≡ cs) → AreGood (reverse cs) f → AreGood (reverse ds) f'
+pub added-good_by : {A E : Type 0} (r : Result A E) (cs ds : List Change) (f f' : Fields) → OnOk r (f' ≡ added f) → OnOk r (ds ≡ cs ++ Added ∷ [])
+    → OnErr r (f' ≡ f) → OnErr r (ds ≡ cs) → AreGood (reverse cs) f → AreGood (reverse ds) f'
 added-good_by (Ok _) cs ds f f' q p q' p' h = added-good cs ds f f' p q h
 added-good_by (Err _) cs ds f f' q p q' p' h = rw (p', q') h
 
-pub added-is_by : {A E : Type 0} (r : Result A E) (cs ds : List Change) (f f' : Fields) (before : History) → AreGood (reverse cs) f → history (reverse cs) f ≡ before → OnOk r (f' ≡ added f) → OnOk r (ds ≡ cs ++ Added ∷ [])
+pub added-is_by : {A E : Type 0} (r : Result A E) (cs ds : List Change) (f f' : Fields) (before : History) → AreGood (reverse cs) f
+    → history (reverse cs) f ≡ before → OnOk r (f' ≡ added f) → OnOk r (ds ≡ cs ++ Added ∷ [])
     → OnOk r (history (reverse ds) f' ≡ grown Grew (with_variable before.contents) before)
 added-is_by (Ok _) cs ds f f' before h e q p = rw (← e) (added-is cs ds f f' p q h)
 added-is_by (Err _) cs ds f f' before h e q p = tt
 
-pub kept-is_by : {A E : Type 0} (r : Result A E) (cs ds : List Change) (f f' : Fields) (before : History) → history (reverse cs) f ≡ before → OnErr r (f' ≡ f) → OnErr r (ds ≡ cs) → OnErr r (history (reverse ds) f' ≡ before)
+pub kept-is_by : {A E : Type 0} (r : Result A E) (cs ds : List Change) (f f' : Fields) (before : History) → history (reverse cs) f ≡ before → OnErr r (f' ≡ f)
+    → OnErr r (ds ≡ cs) → OnErr r (history (reverse ds) f' ≡ before)
 kept-is_by (Ok _) cs ds f f' before e q p = tt
 kept-is_by (Err _) cs ds f f' before e q p = rw (q, p) e

@@ -25,7 +25,8 @@ module _ (b : List Bound) where
   follow-stays zero v e = refl
   follow-stays (suc n) v e = rw e (follow-stays n v e)
 
-  leads_from : (n v : ℕ) (t : Option ℕ) → ((w : ℕ) → target_of b (follow n b w) ≡ None → Leads b w (follow n b w)) → target_of b v ≡ t → target_of b (follow n b (onward t v)) ≡ None → Leads b v (follow n b (onward t v))
+  leads_from : (n v : ℕ) (t : Option ℕ) → ((w : ℕ) → target_of b (follow n b w) ≡ None → Leads b w (follow n b w)) → target_of b v ≡ t
+      → target_of b (follow n b (onward t v)) ≡ None → Leads b v (follow n b (onward t v))
   leads_from n v None ih e h = rw (follow-stays n v e) (stays e)
   leads_from n v (Some w) ih e h = goes e (ih w h)
 
@@ -49,7 +50,8 @@ module _ (b : List Bound) where
   pub root_is : IsForest b → (v r : ℕ) → Leads b v r → r ≡ root b v
   root_is f v r x = leads_once x (leads_to_root f v)
 
-  remaining-enough_by : (n v : ℕ) (t : Option ℕ) → ((w : ℕ) → target_of b (follow n b w) ≡ None → remaining (suc n) b w ≡ remaining n b w) → target_of b (follow n b (onward t v)) ≡ None → counted t (remaining (suc n) b (onward t v)) ≡ counted t (remaining n b (onward t v))
+  remaining-enough_by : (n v : ℕ) (t : Option ℕ) → ((w : ℕ) → target_of b (follow n b w) ≡ None → remaining (suc n) b w ≡ remaining n b w)
+      → target_of b (follow n b (onward t v)) ≡ None → counted t (remaining (suc n) b (onward t v)) ≡ counted t (remaining n b (onward t v))
   remaining-enough_by n v None ih e = refl
   remaining-enough_by n v (Some w) ih e = ap suc (ih w e)
 
@@ -85,7 +87,8 @@ module _ (b : List Bound) where
   steps_once {v} {r} {u} (goes e x) (stays f) k = let e' : target_of b v ≡ None = rw (← k) at f in absurd (cc)
   steps_once {v} {r} {u} (goes {w = w} e x) (goes {w = z} f y) k = let e' : target_of b u ≡ Some w = rw k at e in ap suc (steps_once x y (cc))
 
-  off_path : (v n : ℕ) → ((u s : ℕ) (y : Leads b u s) → v ≡ u → steps y ≡ n) → {u r : ℕ} (x : Leads b u r) → steps x < n → AllByRecursion (λ y. eqb v y ≡ false) (path x)
+  off_path : (v n : ℕ) → ((u s : ℕ) (y : Leads b u s) → v ≡ u → steps y ≡ n) → {u r : ℕ} (x : Leads b u r) → steps x < n
+      → AllByRecursion (λ y. eqb v y ≡ false) (path x)
   unfolding path steps
   off_path v n h (stays e) l = tt
   off_path v n h {u} {r} (goes {w = w} e x) l =

@@ -1,6 +1,6 @@
 -- Keys: when two are equal, and what is looked up.
-use Rattle.std.proofs.Common.{ℕ, ◌≡◌, Bool, true, false, cond, List, [], ◌∷◌, ◌++◌, refl, sym, ap, ◌∙◌, subst, inl, inr, ◌⊎◌, Some, None}
-use Rattle.std.specs.Prelude.{◌&&◌, nat_eq, Option}
+use Rattle.std.proofs.Common.{ℕ, ◌≡◌, Bool, true, false, cond, List, [], ◌∷◌, ◌++◌, refl, ap, ◌∙◌, subst, inl, inr, ◌⊎◌, Some, None}
+use Rattle.std.specs.Prelude.{◌&&◌, nat_eq}
 use Rattle.std.specs.List.{AllByRecursion}
 use Rattle.std.specs.Cmp.Lexicographic.{pointwise, bytes_decides}
 use Rattle.std.specs.Map.{lookup}
@@ -10,7 +10,8 @@ use Rattle.tree_model.specs.declared.tree.Symbol.TheVariants as symbols
 use Rattle.term_graph.specs.declared.key.Sign.{Sign}
 use Rattle.term_graph.specs.declared.key.Sign.TheVariants.{Named, Further}
 use Rattle.term_graph.specs.declared.key.Key.{Key}
-use Rattle.term_graph.specs.Keys.{sign_of, is_same_sign, is_key_of, is_same_key}
+use Rattle.term_graph.specs.contracts.key.KeyPartialEq.TheImpl as impl
+use Rattle.term_graph.specs.Keys.{sign_of, is_same_sign, is_key_of}
 
 first_true : (a b : Bool) → (a && b) ≡ true → a ≡ true
 first_true true b h = refl
@@ -54,7 +55,8 @@ true_or_false false = inr refl
 
 module _ {K X : Type 0} (test : K → Bool) where
   -- what is found stands in the list
-  pub lookup_found : (P : K × X → Type 0) (es : List (K × X)) (v : X) → AllByRecursion P es → lookup test es ≡ Some v → (e : K × X) × P e × (test e.0 ≡ true) × (e.1 ≡ v)
+  pub lookup_found : (P : K × X → Type 0) (es : List (K × X)) (v : X) → AllByRecursion P es → lookup test es ≡ Some v
+      → (e : K × X) × P e × (test e.0 ≡ true) × (e.1 ≡ v)
   lookup_found P [] v h f = let g : None ≡ Some v = f in absurd (cc)
   lookup_found P (e ∷ es) v h f = elim (true_or_false (test e.0)) [
     | inl t ↦ (e, h.0, t, (let g : Some e.1 ≡ Some v = rw t at f in cc))
@@ -83,3 +85,21 @@ all_pushed P (y ∷ ys) x h p = (h.0, all_pushed P ys x h.1 p)
 pub all_each : {X : Type 0} (P Q : X → Type 0) → ((x : X) → P x → Q x) → (xs : List X) → AllByRecursion P xs → AllByRecursion Q xs
 all_each P Q f [] h = tt
 all_each P Q f (x ∷ xs) h = (f x h.0, all_each P Q f xs h.1)
+
+-- `==` of keys
+equal_parts : (s t : Sign) (a b : Key)
+    → impl.eq-value.it (record a { sign = s }) (record b { sign = t }) ≡ (is_same_sign s t && pointwise nat_eq a.args.items b.args.items)
+equal_parts (Named m) (Named n) a b = refl
+equal_parts (Named m) (Further n) a b = refl
+equal_parts (Further m) (Named n) a b = refl
+equal_parts (Further m) (Further n) a b = refl
+
+pub equal_keys : (a b : Key) → impl.eq-value.it a b ≡ is_key_of a.sign a.args.items b
+equal_keys a b = equal_parts a.sign b.sign a b
+
+pub lookup_as : {K X : Type 0} (f g : K → Bool) (es : List (K × X)) → ((k : K) → f k ≡ g k) → lookup f es ≡ lookup g es
+lookup_as f g [] h = refl
+lookup_as f g (e ∷ es) h = ap (λ z. cond z (Some e.1) (lookup f es)) (h e.0) ∙ ap (λ z. cond (g e.0) (Some e.1) z) (lookup_as f g es h)
+
+pub lookup_key_as : (k : Key) (es : List (Key × ℕ)) → lookup (impl.eq-value.it k) es ≡ lookup (is_key_of k.sign k.args.items) es
+lookup_key_as k es = lookup_as (impl.eq-value.it k) (is_key_of k.sign k.args.items) es (λ x. equal_keys k x)

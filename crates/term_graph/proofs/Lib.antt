@@ -1,10 +1,13 @@
 pub mod Adding
 pub mod Forests
+pub mod Interning
 pub mod Keying
+pub mod Making
 pub mod Marking
 pub mod Mentioning
 pub mod Reading
 pub mod Restoring
 pub mod Ringing
 pub mod Sharing
+pub mod Terming
 pub mod Trailing

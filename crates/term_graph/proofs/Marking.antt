@@ -1,8 +1,7 @@
 -- A mark more, and slots with the same bindings and cells.
-use Rattle.std.proofs.Common.{◌≡◌, ℕ, ◌<◌, List, [], ◌∷◌, ◌++◌, true, false, length, set, get_or, refl, sym, ◌∙◌, ap, map, length-set, get_or-set_same}
+use Rattle.std.proofs.Common.{◌≡◌, ℕ, ◌<◌, List, [], ◌∷◌, ◌++◌, false, length, set, get_or, refl, sym, ◌∙◌, ap, map, length-set, get_or-set_same}
 use Rattle.std.specs.Prelude.{reverse, Result, Ok, Err, OnOk, OnErr}
-use Rattle.std.proofs.lemmas.List.{set-set, set-get_or, map-set, get_or-map, length-map}
-use Rattle.term_graph.specs.declared.bound.Bound.{Bound}
+use Rattle.std.proofs.lemmas.List.{set-set, set-get_or, map-set, get_or-map}
 use Rattle.term_graph.specs.Contents.{History, grown, with_mark, marked}
 use Rattle.term_graph.specs.Contents.Step.{MarkedAt}
 use Rattle.term_graph.specs.Fields.{Fields, free, slot_at, with_slots, with_finite, without_finite, seen, undone, history, bindings_of, heads_of, uses_seen}
@@ -26,7 +25,8 @@ good_as f slots b h g = record {
   bound = rw b g.bound;
 }
 
-pub uses_as : (slots slots' : List Slot) (cells : List Cell) (next : List ℕ) → length slots' ≡ length slots → bindings_of slots' ≡ bindings_of slots → heads_of slots' ≡ heads_of slots → uses_seen slots' cells next ≡ uses_seen slots cells next
+pub uses_as : (slots slots' : List Slot) (cells : List Cell) (next : List ℕ) → length slots' ≡ length slots → bindings_of slots' ≡ bindings_of slots
+    → heads_of slots' ≡ heads_of slots → uses_seen slots' cells next ≡ uses_seen slots cells next
 unfolding uses_seen
 uses_as slots slots' cells next n b h = rw (n, b, h) refl
 
@@ -65,10 +65,12 @@ module _ (f : Fields) (v : ℕ) (l : v < length f.slots) (e : (slot_at f.slots v
         let m : get_or (map (λ s. s.finite) f.slots) v false ≡ false = get_or-map (λ s. s.finite) f.slots v (free 0) false l ∙ e in
         rw (q, m) (history-pushed cs ds (Marked v) f (with_slots now f) p undone-marked ∙ ap (λ c. grown (MarkedAt v) c (history (reverse cs) f)) seen-marked)
 
-  pub marked-good_by : {A E : Type 0} (r : Result A E) (cs ds : List Change) (f' : Fields) → OnOk r (f' ≡ with_slots now f) → OnOk r (ds ≡ cs ++ Marked v ∷ []) → OnErr r (f' ≡ f) → OnErr r (ds ≡ cs) → AreGood (reverse cs) f → AreGood (reverse ds) f'
+  pub marked-good_by : {A E : Type 0} (r : Result A E) (cs ds : List Change) (f' : Fields) → OnOk r (f' ≡ with_slots now f)
+      → OnOk r (ds ≡ cs ++ Marked v ∷ []) → OnErr r (f' ≡ f) → OnErr r (ds ≡ cs) → AreGood (reverse cs) f → AreGood (reverse ds) f'
   marked-good_by (Ok _) cs ds f' q p q' p' h = marked-good cs ds f' p q h
   marked-good_by (Err _) cs ds f' q p q' p' h = rw (p', q') h
 
-  pub marked-is_by : {A E : Type 0} (r : Result A E) (cs ds : List Change) (f' : Fields) (before : History) → history (reverse cs) f ≡ before → OnOk r (f' ≡ with_slots now f) → OnOk r (ds ≡ cs ++ Marked v ∷ []) → OnOk r (history (reverse ds) f' ≡ marked v before)
+  pub marked-is_by : {A E : Type 0} (r : Result A E) (cs ds : List Change) (f' : Fields) (before : History) → history (reverse cs) f ≡ before
+      → OnOk r (f' ≡ with_slots now f) → OnOk r (ds ≡ cs ++ Marked v ∷ []) → OnOk r (history (reverse ds) f' ≡ marked v before)
   marked-is_by (Ok _) cs ds f' before e' q p = rw (← e') (marked-is cs ds f' p q)
   marked-is_by (Err _) cs ds f' before e' q p = tt

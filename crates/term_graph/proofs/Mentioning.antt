@@ -1,11 +1,10 @@
 -- The cells of mentions.
-use Rattle.std.proofs.Common.{ℕ, ◌≡◌, ◌<◌, ◌≤◌, ◌+◌, List, [], ◌∷◌, ◌++◌, length, get_or, refl, sym, ap, ◌∙◌, subst, inl, inr, Some, None, arith}
+use Rattle.std.proofs.Common.{ℕ, ◌≡◌, ◌<◌, ◌+◌, List, [], ◌∷◌, ◌++◌, length, get_or, sym, ◌∙◌, inl, inr, Some, None, arith}
 use Rattle.std.specs.Prelude.{Option}
 use Rattle.std.proofs.lemmas.Bool.{cases_eq, cases_lt}
 use Rattle.std.proofs.lemmas.List.{get_or_append_left, get_or_push, get_or_past, length_push}
 use Rattle.term_graph.specs.declared.term.Term.{Term as Made}
 use Rattle.term_graph.specs.declared.parts.Mention.{Mention}
-use Rattle.term_graph.specs.Contents.{term_at}
 use Rattle.term_graph.specs.Good.{AreMentioned}
 
 -- a place where something is mentioned is one of the list
@@ -13,7 +12,8 @@ pub mention_in : (ms : List (Option Mention)) (c : ℕ) (m : Mention) → get_or
 mention_in ms c m e = elim (cases_lt c (length ms)) [ inl l ↦ l | inr g ↦ (let p : get_or ms c None ≡ None = get_or_past ms c None (omega arith) in absurd (cc)) ]
 
 -- a variable more
-module _ (heads owners : List ℕ) (terms : List Made) (ms : List (Option Mention)) (g : AreMentioned heads owners terms ms) (h o : ℕ) (he : h ≡ length ms) (inside : (v : ℕ) → v < length heads → get_or heads v 0 < length ms) where
+module _ (heads owners : List ℕ) (terms : List Made) (ms : List (Option Mention)) (g : AreMentioned heads owners terms ms) (h o : ℕ) (he : h ≡ length ms)
+    (inside : (v : ℕ) → v < length heads → get_or heads v 0 < length ms) where
   old_mention : (c : ℕ) → c < length ms → get_or (ms ++ None ∷ []) c None ≡ get_or ms c None
   old_mention c l = get_or_append_left ms (None ∷ []) None c l
 

@@ -2,7 +2,7 @@
 use Rattle.std.proofs.Common.{◌≡◌, ℕ, zero, suc, ◌<◌, ◌≤◌, List, [], ◌∷◌, ◌++◌, length, take, drop, refl, sym, ◌∙◌, ap, arith, Option, Some, None, slice_get}
 use Rattle.std.proofs.lemmas.List.{take-append-le, drop-append-le, length_push}
 use Rattle.indexmap.specs.IndexMap.{set_value_at}
-use Rattle.std.specs.Prelude.{Result, Ok, Err, OnOk, OnErr, map}
+use Rattle.std.specs.Prelude.{map}
 use Rattle.std.proofs.lemmas.List.{drop_all, take_all}
 use Rattle.term_graph.specs.declared.key.Key.{Key}
 use Rattle.term_graph.specs.declared.key.Lowered.{Lowered}
@@ -55,7 +55,8 @@ kept-more es xs e = record {
   back = λ k n l m. ap (restored (drop n xs)) (take-append-le k es (e ∷ []) l);
 }
 
-pub kept-lowered : (es : List (Key × ℕ)) (xs : List Lowered) (i v t : ℕ) → value_at es i ≡ Some v → IsKept es xs (set_value_at es i t) (xs ++ record { place = i; leader = v } ∷ [])
+pub kept-lowered : (es : List (Key × ℕ)) (xs : List Lowered) (i v t : ℕ) → value_at es i ≡ Some v
+    → IsKept es xs (set_value_at es i t) (xs ++ record { place = i; leader = v } ∷ [])
 kept-lowered es xs i v t h = record {
   keys = omega (arith, length-written es i t);
   count = omega (arith, length_push xs (record { place = i; leader = v }));

@@ -1,18 +1,18 @@
 -- The rings of the classes: a variable, a mention or a binding more.
-use Rattle.std.proofs.Common.{◌≡◌, ◌≢◌, ℕ, zero, suc, ◌+◌, ◌<◌, ◌≤◌, List, [], ◌∷◌, ◌++◌, length, set, get_or, refl, sym, ◌∙◌, ap, subst, inl, inr, arith, length-set}
-use Rattle.std.specs.Prelude.{Option, Some, None, Contains}
+use Rattle.std.proofs.Common.{◌≡◌, ◌≢◌, ℕ, zero, suc, ◌+◌, ◌<◌, List, [], ◌∷◌, ◌++◌, length, set, get_or, refl, sym, ◌∙◌, ap, subst, inl, inr, arith, length-set}
+use Rattle.std.specs.Prelude.{None, Contains}
 use Rattle.std.specs.List.{AllByRecursion}
 use Rattle.std.proofs.lemmas.Bool.{cases_eq}
 use Rattle.std.proofs.lemmas.List.{get_or_append_left, get_or_push, get_or_past, length_push}
 use Rattle.std.proofs.lemmas.List.Elements.{Contains-append_left, Contains-append_right, Contains-append_cases}
-use Rattle.index_lists.specs.Rings.{IsRound, IsInside, exchanged, with_cell}
+use Rattle.index_lists.specs.Rings.{IsRound, exchanged, with_cell}
 use Rattle.index_lists.proofs.Exchanging.{length-exchanged}
 use Rattle.index_lists.proofs.Rounds.{all_both, all_weaker, all_pair, absent_from, round_joined, round_other, exchanged-inside, round_alone, round_added, added-inside, with_cell-round, with_cell-other, with_cell-inside, length-with_cell}
 use Rattle.term_graph.specs.declared.bound.Bound.{Bound}
 use Rattle.term_graph.specs.declared.bound.Bound.TheVariants.{Free, Variable}
 use Rattle.term_graph.specs.Contents.{target, target_of, root, follow, onward, IsForest, Leads}
 use Rattle.term_graph.specs.Good.{IsClass, AreRinged}
-use Rattle.term_graph.proofs.Forests.{forest_added, added-target, root_of_root, root-added, root-within, leads_to_root, leads_open, leads_root, forest_bound, bound-same, bound-other, root-joined, root-kept}
+use Rattle.term_graph.proofs.Forests.{forest_added, added-target, root_of_root, root-added, root-within, leads_to_root, forest_bound, bound-same, bound-other, root-joined, root-kept}
 use Rattle.term_graph.proofs.Reading.{round_within}
 
 pub contains_first : (x : ℕ) (xs : List ℕ) → Contains (x ∷ xs) x
@@ -68,7 +68,8 @@ module _ (b : List Bound) (heads owners next : List ℕ) (g : AreRinged b heads 
     root_new : root more_b (get_or (owners ++ o ∷ []) (length next) 0) ≡ length b
     root_new = ap (root more_b) owner_new ∙ root-added b g.forest (length b) ∙ root_of_root b (length b) open_new
 
-    whole_old : (r : ℕ) → r < length b → (k : IsClass b heads owners next r) → (c : ℕ) → c < length next + 1 → root more_b (get_or (owners ++ o ∷ []) c 0) ≡ r → Contains (get_or heads r 0 ∷ k.rest) c
+    whole_old : (r : ℕ) → r < length b → (k : IsClass b heads owners next r) → (c : ℕ) → c < length next + 1 → root more_b (get_or (owners ++ o ∷ []) c 0) ≡ r
+        → Contains (get_or heads r 0 ∷ k.rest) c
     whole_old r l k c m e = elim (cases_eq c (length next)) [
       | inl i ↦ absurd (let f : length b ≡ r = sym root_new ∙ ap (λ z. root more_b (get_or (owners ++ o ∷ []) z 0)) (sym i) ∙ e in omega arith)
       | inr n ↦ (let s : c < length next = omega (arith, n) in k.whole c s (sym (root_old c s) ∙ e))
@@ -172,7 +173,8 @@ module _ (b : List Bound) (heads owners next : List ℕ) (g : AreRinged b heads 
     mention_length : length mention_next ≡ length next + 1
     mention_length = length-with_cell next g.inside (get_or heads a 0) ha
 
-    whole_a : (k : IsClass b heads owners next a) → (c : ℕ) → c < length next + 1 → root b (get_or (owners ++ a ∷ []) c 0) ≡ a → Contains (get_or heads a 0 ∷ (length next ∷ k.rest)) c
+    whole_a : (k : IsClass b heads owners next a) → (c : ℕ) → c < length next + 1 → root b (get_or (owners ++ a ∷ []) c 0) ≡ a
+        → Contains (get_or heads a 0 ∷ (length next ∷ k.rest)) c
     whole_a k c m e = elim (cases_eq c (length next)) [
       | inl i ↦ subst (λ z. Contains (get_or heads a 0 ∷ (length next ∷ k.rest)) z) (sym i) (contains_later (get_or heads a 0) (length next) (length next ∷ k.rest) (contains_first (length next) k.rest))
       | inr n ↦ (let s : c < length next = omega (arith, n) in past (get_or heads a 0) (length next) c k.rest (k.whole c s (sym (ap (root b) (owner_kept c s)) ∙ e)))

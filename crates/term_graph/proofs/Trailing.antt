@@ -14,7 +14,8 @@ length-moments (c ∷ cs) f =
     let b = length-moments cs (undone c f) in
     omega arith
 
-contents_at-push : (xs : List Moment) (step : Step) (c d : Contents) (m : ℕ) → m ≤ length xs → contents_at (xs ++ record { step = step; before = c } ∷ []) d m ≡ contents_at xs c m
+contents_at-push : (xs : List Moment) (step : Step) (c d : Contents) (m : ℕ) → m ≤ length xs
+    → contents_at (xs ++ record { step = step; before = c } ∷ []) d m ≡ contents_at xs c m
 contents_at-push [] step c d zero h = refl
 contents_at-push [] step c d (suc m) h = absurd (omega arith)
 contents_at-push (x ∷ xs) step c d zero h = refl
@@ -58,12 +59,14 @@ pub AreGood-grown : (cs : List Change) (c : Change) (f g : Fields) → undone c 
 AreGood-grown cs c f g e a b h = (a, b, rw e h)
 
 -- a change pushed to a trail whose last change stands last
-pub AreGood-pushed : (cs ds : List Change) (c : Change) (f g : Fields) → ds ≡ cs ++ c ∷ [] → undone c g ≡ f → IsGood g → Fits c g → AreGood (reverse cs) f → AreGood (reverse ds) g
+pub AreGood-pushed : (cs ds : List Change) (c : Change) (f g : Fields) → ds ≡ cs ++ c ∷ [] → undone c g ≡ f → IsGood g → Fits c g → AreGood (reverse cs) f
+    → AreGood (reverse ds) g
 AreGood-pushed cs ds c f g p e a b h =
     let r : reverse ds ≡ c ∷ reverse cs = rw p (reverse-append cs (c ∷ [])) in
     rw r (AreGood-grown (reverse cs) c f g e a b h)
 
-pub history-pushed : (cs ds : List Change) (c : Change) (f g : Fields) → ds ≡ cs ++ c ∷ [] → undone c g ≡ f → history (reverse ds) g ≡ grown (step_of c) (seen g) (history (reverse cs) f)
+pub history-pushed : (cs ds : List Change) (c : Change) (f g : Fields) → ds ≡ cs ++ c ∷ [] → undone c g ≡ f
+    → history (reverse ds) g ≡ grown (step_of c) (seen g) (history (reverse cs) f)
 history-pushed cs ds c f g p e =
     let r : reverse ds ≡ c ∷ reverse cs = rw p (reverse-append cs (c ∷ [])) in
     rw r (history-grown (reverse cs) c f g e)

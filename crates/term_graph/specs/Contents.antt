@@ -1,5 +1,5 @@
 -- What a graph holds now, and what it held at each earlier length of its trail.
-use Rattle.std.specs.Prelude.{◌≡◌, ℕ, zero, suc, ◌<◌, ◌≤◌, Bool, true, false, List, [], ◌∷◌, ◌++◌, length, map, take, replicate, count_by, slice_index_or, slice_set, Option, Some, None, if◌then◌else◌, cond, nat_eq, ◌||◌}
+use Rattle.std.specs.Prelude.{◌≡◌, ℕ, zero, suc, ◌<◌, ◌≤◌, Bool, true, false, List, [], ◌∷◌, ◌++◌, length, map, take, slice_index_or, slice_set, Option, Some, None, if◌then◌else◌, cond, nat_eq, ◌⊎◌}
 use Rattle.tree_model.specs.declared.tree.Symbol.{Symbol}
 use Rattle.tree_model.specs.declared.tree.Symbol.TheVariants as symbols
 use Rattle.term_graph.specs.declared.bound.Bound.{Bound}
@@ -113,6 +113,30 @@ with_variable c = record { bindings = c.bindings ++ Free ∷ []; marks = c.marks
 
 abbrev pub with_mark : ℕ → Contents → Contents
 with_mark v c = record { bindings = c.bindings; marks = slice_set c.marks v true; terms = c.terms; uses = c.uses }
+
+-- t once for each of these that is r
+abbrev pub once_for : ℕ → ℕ → List ℕ → List ℕ
+once_for r t [] = []
+once_for r t (k ∷ ks) = cond (nat_eq k r) (t ∷ once_for r t ks) (once_for r t ks)
+
+-- one term more, in the uses of each root among its arguments once per mention
+abbrev pub with_term : Symbol → List ℕ → Contents → Contents
+with_term symbol keys c = record {
+  bindings = c.bindings;
+  marks = c.marks;
+  terms = c.terms ++ record { symbol = symbol; args = keys } ∷ [];
+  uses = each (length c.bindings) (λ u. once_for (root c.bindings u) (length c.terms) keys ++ uses_at c u);
+}
+
+-- the least term with this symbol and these roots, and nothing is done; or a new one, where there is none
+abbrev pub IsInterned : History → History → Symbol → List ℕ → ℕ → Type 0
+IsInterned old new symbol keys t =
+    (IsLeader old.contents.bindings old.contents.terms symbol keys (Some t) × (new ≡ old))
+    ⊎ (IsLeader old.contents.bindings old.contents.terms symbol keys None × (t ≡ length old.contents.terms) × (new ≡ grown Interns (with_term symbol keys old.contents) old))
+
+-- v is bound to the term
+abbrev pub bound_to_term : ℕ → ℕ → Contents → Contents
+bound_to_term v t c = record { bindings = slice_set c.bindings v (Term t); marks = c.marks; terms = c.terms; uses = c.uses }
 
 -- v is marked: nothing is done where it was
 abbrev pub marked : ℕ → History → History

@@ -1,13 +1,12 @@
 -- The contents read off the fields, and how a change is taken back.
-use Rattle.std.specs.Prelude.{◌≡◌, ◌≢◌, Option, Some, None, cond, nat_eq, ℕ, zero, suc, ◌+◌, ◌-◌, ◌<◌, ◌≤◌, drop, true, false, List, [], ◌∷◌, ◌++◌, length, map, take, slice_index, slice_index_or, slice_set}
+use Rattle.std.specs.Prelude.{Option, Some, None, cond, nat_eq, ℕ, zero, suc, ◌+◌, ◌-◌, drop, true, false, List, [], ◌∷◌, ◌++◌, length, map, take, slice_index, slice_index_or, slice_set}
 use Rattle.term_graph.specs.declared.bound.Bound.{Bound}
-use Rattle.term_graph.specs.declared.bound.Bound.TheVariants.{Free, Variable, Term}
+use Rattle.term_graph.specs.declared.bound.Bound.TheVariants.{Free}
 use Rattle.term_graph.specs.declared.term.Term.{Term as Made}
 use Rattle.term_graph.specs.declared.parts.Slot.{Slot}
 use Rattle.term_graph.specs.declared.parts.Cell.{Cell}
 use Rattle.term_graph.specs.declared.parts.Mention.{Mention}
 use Rattle.term_graph.specs.declared.parts.Parts.{Parts}
-use Rattle.term_graph.specs.declared.change.Join.{Join}
 use Rattle.term_graph.specs.declared.change.Change.{Change}
 use Rattle.term_graph.specs.declared.change.Change.TheVariants.{Added, Interned, Termed, Joined, Marked}
 use Rattle.term_graph.specs.declared.key.Key.{Key}
@@ -15,7 +14,7 @@ use Rattle.term_graph.specs.declared.key.Lowered.{Lowered}
 use Rattle.term_graph.specs.Contents.{Contents, Step, Moment, History, root, each, term_at}
 use Rattle.term_graph.specs.Contents.Step.{Grew, Interns, MarkedAt, BoundAt}
 use Rattle.term_graph.specs.Lowering.{restored}
-use Rattle.index_lists.specs.Rings.{exchanged, without_last}
+use Rattle.index_lists.specs.Rings.{exchanged, without_last, with_cell}
 
 pub record Fields : Type 0 where
   pub slots : List Slot
@@ -154,3 +153,24 @@ added f = record {
 
 abbrev pub with_slots : List Slot → Fields → Fields
 with_slots slots f = record { slots = slots; terms = f.terms; cells = f.cells; next = f.next; entries = f.entries; lowered = f.lowered }
+
+-- the cells of the mentions of these arguments, from place i on
+abbrev pub mentions : ℕ → ℕ → List ℕ → List Cell
+mentions t i [] = []
+mentions t i (a ∷ as') = record { variable = a; mention = Some (record { term = t; place = i }) } ∷ mentions t (i + 1) as'
+
+-- a cell more for each argument, behind the own cell of its variable
+abbrev pub mention_next : List ℕ → List ℕ → List ℕ → List ℕ
+mention_next heads [] next = next
+mention_next heads (a ∷ as') next = mention_next heads as' (with_cell (slice_index heads a) next)
+
+-- one term more, with its mentions and its key
+abbrev pub made : Made → Key → Fields → Fields
+made term key f = record {
+  slots = f.slots;
+  terms = f.terms ++ term ∷ [];
+  cells = f.cells ++ mentions (length f.terms) 0 term.args;
+  next = mention_next (heads_of f.slots) term.args f.next;
+  entries = f.entries ++ (key, length f.terms) ∷ [];
+  lowered = f.lowered;
+}

@@ -1,17 +1,17 @@
 -- What is true of the fields of every graph.
-use Rattle.std.specs.Prelude.{◌≡◌, ◌<◌, ◌≤◌, ◌+◌, ◌-◌, ℕ, Option, Some, None, List, [], ◌∷◌, Contains, All, length, slice_index, slice_index_or}
+use Rattle.std.specs.Prelude.{◌≡◌, ◌<◌, ◌≤◌, ℕ, Option, Some, None, List, [], ◌∷◌, ◌++◌, ◌⊎◌, Contains, length, slice_index, slice_index_or}
 use Rattle.std.specs.List.{AllByRecursion}
 use Rattle.tree_model.specs.declared.tree.Symbol.{Symbol}
 use Rattle.term_graph.specs.declared.bound.Bound.{Bound}
-use Rattle.term_graph.specs.declared.bound.Bound.TheVariants.{Free, Variable, Term}
+use Rattle.term_graph.specs.declared.bound.Bound.TheVariants.{Term}
 use Rattle.term_graph.specs.declared.term.Term.{Term as Made}
 use Rattle.term_graph.specs.declared.parts.Mention.{Mention}
 use Rattle.term_graph.specs.declared.change.Change.{Change}
 use Rattle.term_graph.specs.declared.change.Change.TheVariants.{Added, Interned, Termed, Joined, Marked}
 use Rattle.term_graph.specs.declared.key.Key.{Key}
 use Rattle.term_graph.specs.Contents.{IsForest, root, target_of, binding_of, term_at, IsLeader}
-use Rattle.term_graph.specs.Keys.{shared_at}
-use Rattle.term_graph.specs.Fields.{Fields, bindings_of, heads_of, owners_of, mentions_of, undone, last_count}
+use Rattle.term_graph.specs.Keys.{shared_at, sign_of}
+use Rattle.term_graph.specs.Fields.{Fields, bindings_of, heads_of, owners_of, mentions_of, undone, last_count, made}
 use Rattle.index_lists.specs.Rings.{IsRound, IsInside}
 
 -- the ring of the root's own cell has exactly the cells of the variables with this root, and of the mentions of these
@@ -35,8 +35,10 @@ pub record AreRinged (bindings : List Bound) (heads owners next : List ℕ) : Ty
 pub record AreMentioned (heads owners : List ℕ) (terms : List Made) (mentions : List (Option Mention)) : Type 0 where
   pub cells : length mentions ≡ length owners
   pub own : (v : ℕ) → v < length heads → slice_index_or mentions (slice_index heads v) None ≡ None
-  pub right : (c : ℕ) (m : Mention) → slice_index_or mentions c None ≡ Some m → (m.term < length terms) × (m.place < length (term_at terms m.term).args) × (slice_index (term_at terms m.term).args m.place ≡ slice_index owners c)
-  pub all : (t i : ℕ) → t < length terms → i < length (term_at terms t).args → (c : ℕ) × (c < length owners) × (slice_index_or mentions c None ≡ Some (record { term = t; place = i }))
+  pub right : (c : ℕ) (m : Mention) → slice_index_or mentions c None ≡ Some m
+      → (m.term < length terms) × (m.place < length (term_at terms m.term).args) × (slice_index (term_at terms m.term).args m.place ≡ slice_index owners c)
+  pub all : (t i : ℕ) → t < length terms → i < length (term_at terms t).args
+      → (c : ℕ) × (c < length owners) × (slice_index_or mentions c None ≡ Some (record { term = t; place = i }))
 
 -- each of these is a variable that is its own root
 abbrev pub AreRoots : List Bound → List ℕ → Type 0
@@ -65,3 +67,10 @@ Fits (Marked v) f = v < length f.slots
 abbrev pub AreGood : List Change → Fields → Type 0
 AreGood [] f = IsGood f
 AreGood (c ∷ cs) f = IsGood f × Fits c f × AreGood cs (undone c f)
+
+-- on the fields: the least term with the symbol and the roots, and nothing is done; or a new one under a key that was not there
+abbrev pub IsInternedIn : Fields → Fields → List Change → List Change → Symbol → List ℕ → ℕ → Type 0
+IsInternedIn f f' cs ds symbol keys t =
+    ((shared_at f.entries symbol keys ≡ Some t) × (f' ≡ f) × (ds ≡ cs))
+    ⊎ ((shared_at f.entries symbol keys ≡ None) × (t ≡ length f.terms)
+    × ((key : Key) × (key.sign ≡ sign_of symbol) × (key.args.items ≡ keys) × (f' ≡ made (record { symbol = symbol; args = keys }) key f)) × (ds ≡ cs ++ Interned ∷ []))

@@ -1,14 +1,16 @@
 //! The graph: its contents now, and the moments of its trail.
-ghost use Rattle.std.specs.Prelude.{◌≡◌, ◌≢◌, ◌<◌, ◌≤◌, None, [], ◌∷◌, ◌++◌, length, IfOk, OnOk, OnErr, slice_index_or, false};
+ghost use Rattle.std.specs.Prelude.{All, map, ◌≡◌, ◌≢◌, ◌<◌, ◌≤◌, None, [], ◌∷◌, ◌++◌, length, IfOk, OnOk, OnErr, slice_index_or, false};
 
 use crate::Bound;
 use crate::change::Change;
 use crate::parts::{self, Parts, binding_at, root_of};
+use flat_form::Args;
 use index_lists::Rings;
 use indexmap::IndexMap;
 use lists::NoMemory;
 use std::alloc::Global;
 use std::marker::Model;
+use tree_model::Symbol;
 
 /// A length of the trail.
 #[derive(Clone, Copy)]
@@ -19,6 +21,7 @@ pub struct Mark {
 /// Variables, terms and cells of mentions, by index. Bindings of variables to variables have no cycle.
 #[derive(Drop)]
 pub struct Graph {
+    alloc: Global,
     parts: Parts,
     trail: Vec<Change>,
 }
@@ -38,14 +41,15 @@ impl Model for Graph {
 }
 
 impl Graph {
-    ghost use Rattle.term_graph.specs.Contents.{empty, grown, with_variable, marked, back_to, IsGrown, root, binding_of, Leads};
-    ghost use Rattle.term_graph.specs.Contents.Step.{Grew};
+    ghost use Rattle.term_graph.specs.Contents.{empty, grown, with_variable, marked, back_to, IsGrown, root, binding_of, Leads, IsInterned, IsLeader, term_at, bound_to_term};
+    ghost use Rattle.term_graph.specs.Contents.Step.{Grew, BoundAt};
 
     /// No variable and no term. It takes no memory.
     pub fn new(alloc: Global) -> Graph
         ensures { result ≡ empty }
     {
         Graph {
+            alloc,
             parts: Parts {
                 slots: Vec::new(alloc),
                 terms: Vec::new(alloc),
@@ -79,6 +83,35 @@ impl Graph {
         parts::mark(&mut self.parts, &mut self.trail, v)
     }
 
+    /// The term with this symbol and the roots of these arguments: the least there is, else a new one.
+    pub fn intern_term(&mut self, symbol: Symbol, args: &[usize]) -> Result<usize, NoMemory>
+        requires within { All (λ x. x < length self.old.contents.bindings) args.now }
+        requires few { length args.now ≤ 8 }
+        ensures ok { IfOk result (IsInterned self.old self.new symbol (map (root self.old.contents.bindings) args.now)) }
+        ensures err { OnErr result (self.new ≡ self.old) }
+    {
+        parts::share(self.alloc, &mut self.parts, &mut self.trail, symbol, args)
+    }
+
+    /// The least term with this symbol and the roots of these arguments.
+    pub fn find(&self, symbol: Symbol, args: &[usize]) -> Result<Option<usize>, NoMemory>
+        requires within { All (λ x. x < length self.now.contents.bindings) args.now }
+        ensures { IfOk result (IsLeader self.now.contents.bindings self.now.contents.terms symbol (map (root self.now.contents.bindings) args.now)) }
+    {
+        parts::shared(self.alloc, &self.parts, symbol, args)
+    }
+
+    /// Binds a free variable to a term.
+    pub fn bind_term(&mut self, v: usize, t: usize) -> Result<(), NoMemory>
+        requires v_in { v < length self.old.contents.bindings }
+        requires free { binding_of self.old.contents.bindings v ≡ Bound.Free }
+        requires t_in { t < length self.old.contents.terms }
+        ensures ok { OnOk result (self.new ≡ grown (BoundAt v) (bound_to_term v t self.old.contents) self.old) }
+        ensures err { OnErr result (self.new ≡ self.old) }
+    {
+        parts::bind_term(&mut self.parts, &mut self.trail, v, t)
+    }
+
     /// The last variable along the bindings. It takes no memory.
     pub fn deref(&self, v: usize) -> usize
         requires { v < length self.now.contents.bindings }
@@ -87,6 +120,20 @@ impl Graph {
         ensures leads { Leads self.now.contents.bindings v result }
     {
         root_of(&self.parts.slots, v)
+    }
+
+    /// How many variables there are. It takes no memory.
+    pub fn variables(&self) -> usize
+        ensures { result ≡ length self.now.contents.bindings }
+    {
+        self.parts.slots.len()
+    }
+
+    /// How many terms there are. It takes no memory.
+    pub fn terms(&self) -> usize
+        ensures { result ≡ length self.now.contents.terms }
+    {
+        self.parts.terms.len()
     }
 
     /// What the variable is bound to. It takes no memory.
@@ -103,6 +150,22 @@ impl Graph {
         ensures { result ≡ slice_index_or self.now.contents.marks v false }
     {
         self.parts.slots[v].finite
+    }
+
+    /// The symbol of the term. It takes no memory.
+    pub fn symbol(&self, t: usize) -> &Symbol
+        requires { t < length self.now.contents.terms }
+        ensures { result.now ≡ (term_at self.now.contents.terms t).symbol }
+    {
+        &self.parts.terms[t].symbol
+    }
+
+    /// The arguments of the term. It takes no memory.
+    pub fn args(&self, t: usize) -> &Args
+        requires { t < length self.now.contents.terms }
+        ensures { result.now ≡ (term_at self.now.contents.terms t).args }
+    {
+        &self.parts.terms[t].args
     }
 
     /// The length of the trail. It takes no memory.

@@ -1,18 +1,26 @@
 //! The parts of a graph besides its trail, and the work on them.
-ghost use Rattle.std.specs.Prelude.{◌≡◌, ℕ, ◌<◌, ◌≤◌, ◌+◌, ◌-◌, List, [], ◌∷◌, ◌++◌, length, take, drop, IfOk, OnOk, OnErr, slice_index_or, slice_set, Bool, true, false};
+ghost use Rattle.std.specs.Prelude.{◌≡◌, ℕ, None, All, map, slice_index, ◌<◌, ◌≤◌, ◌+◌, ◌-◌, List, [], ◌∷◌, ◌++◌, length, take, drop, IfOk, OnOk, OnErr, slice_index_or, slice_set, Bool, true, false};
 ghost use Rattle.indexmap.specs.IndexMap.{set_value_at};
 ghost use Rattle.term_graph.specs.Lowering.{restored};
-ghost use Rattle.term_graph.specs.Fields.{fields, undone, free, own, with_finite, slot_at, bindings_of, cut_off, with_slots, added};
-ghost use Rattle.term_graph.specs.Good.{Fits};
-ghost use Rattle.term_graph.specs.Contents.{IsForest, Leads};
+ghost use Rattle.term_graph.specs.Fields.{fields, undone, free, own, with_finite, slot_at, bindings_of, cut_off, with_slots, added, heads_of, mentions, mention_next, made, rebound};
+ghost use Rattle.term_graph.specs.Good.{Fits, IsGood, IsInternedIn};
+ghost use Rattle.term_graph.specs.Contents.{IsForest, Leads, root, IsLeader};
+ghost use Rattle.term_graph.specs.Keys.{is_key_of, sign_of};
+ghost use Rattle.std.specs.List.{AllByRecursion};
+ghost use Rattle.std.specs.Map.{lookup};
+ghost use Rattle.index_lists.specs.Rings.{IsInside, with_cell};
 
 use crate::Bound;
 use crate::change::Change;
-use crate::key::{Key, Lowered};
+use crate::key::{Key, Lowered, add_key, find_key, sign_key};
 use crate::term::Term;
+use flat_form::Args;
 use index_lists::Rings;
 use indexmap::IndexMap;
 use lists::NoMemory;
+use smallvec::SmallVec;
+use std::alloc::Global;
+use tree_model::Symbol;
 
 /// What the graph keeps of a variable. The cell is its own one, which mentions nothing.
 #[derive(Clone, Copy)]
@@ -107,6 +115,26 @@ pub fn mark(parts: &mut Parts, trail: &mut Vec<Change>, v: usize) -> Result<(), 
     Ok(())
 }
 
+/// Binds the variable to the term.
+pub fn bind_term(
+    parts: &mut Parts,
+    trail: &mut Vec<Change>,
+    v: usize,
+    t: usize,
+) -> Result<(), NoMemory>
+    requires { v < length parts.old.slots.items }
+    ensures fields { OnOk result (fields parts.new ≡ with_slots (rebound v (Bound.Term t) parts.old.slots.items) (fields parts.old)) }
+    ensures trail { OnOk result (trail.new.items ≡ trail.old.items ++ Change.Termed v ∷ []) }
+    ensures fields_err { OnErr result (fields parts.new ≡ fields parts.old) }
+    ensures trail_err { OnErr result (trail.new.items ≡ trail.old.items) }
+{
+    if trail.push(Change::Termed(v)).is_err() {
+        return Err(NoMemory);
+    }
+    parts.slots[v].binding = Bound::Term(t);
+    Ok(())
+}
+
 /// What the variable is bound to.
 pub fn binding_at(slots: &Vec<Slot>, at: usize) -> Bound
     requires { at < length slots.now.items }
@@ -127,6 +155,203 @@ pub fn root_of(slots: &Vec<Slot>, v: usize) -> usize
         at = next;
     }
     at
+}
+
+/// The roots of these variables.
+pub fn roots_of(
+    alloc: Global,
+    slots: &Vec<Slot>,
+    args: &[usize],
+) -> Result<SmallVec<usize, 8>, NoMemory>
+    requires within { All (λ x. x < length slots.now.items) args.now }
+    requires forest { IsForest (bindings_of slots.now.items) }
+    ensures { IfOk result (λ keys. keys.items ≡ map (root (bindings_of slots.now.items)) args.now) }
+{
+    let mut keys = SmallVec::new(alloc);
+    for i in 0..args.len() {
+        let root = root_of(slots, args[i]);
+        keys.push(root)?;
+    }
+    Ok(keys)
+}
+
+// The same numbers as arguments.
+fn args_of(alloc: Global, keys: &[usize]) -> Result<Args, NoMemory>
+    ensures { IfOk result (λ args. args ≡ keys.now) }
+{
+    let mut args = Args::new(alloc);
+    for &key in keys {
+        args.push(key)?;
+    }
+    Ok(args)
+}
+
+// A cell more, behind this one.
+fn add_mention(
+    cells: &mut Vec<Cell>,
+    rings: &mut Rings,
+    head: usize,
+    cell: Cell,
+) -> Result<(), NoMemory>
+    requires { head < length rings.old }
+    ensures cells { OnOk result (cells.new.items ≡ cells.old.items ++ cell ∷ []) }
+    ensures rings { OnOk result (rings.new ≡ with_cell head rings.old) }
+    ensures cells_err { OnErr result (cells.new.items ≡ cells.old.items) }
+    ensures rings_err { OnErr result (rings.new ≡ rings.old) }
+{
+    if cells.push(cell).is_err() {
+        return Err(NoMemory);
+    }
+    if rings.add_cell(head).is_err() {
+        cells.pop();
+        return Err(NoMemory);
+    }
+    Ok(())
+}
+
+// A cell for each argument of the term, behind the own cell of its variable.
+fn add_mentions(
+    cells: &mut Vec<Cell>,
+    rings: &mut Rings,
+    slots: &Vec<Slot>,
+    term: usize,
+    args: &Args,
+) -> Result<(), NoMemory>
+    requires inside { IsInside rings.old }
+    requires heads { AllByRecursion (λ a. (a < length slots.now.items) × (slice_index (heads_of slots.now.items) a < length rings.old)) args.now }
+    ensures cells { OnOk result (cells.new.items ≡ cells.old.items ++ mentions term 0 args.now) }
+    ensures rings { OnOk result (rings.new ≡ mention_next (heads_of slots.now.items) args.now rings.old) }
+    ensures cells_err { OnErr result (cells.new.items ≡ cells.old.items) }
+    ensures rings_err { OnErr result (rings.new ≡ rings.old) }
+{
+    for i in 0..args.len() {
+        let variable = *args.get(i);
+        let mention = Some(Mention { term, place: i });
+        let cell = Cell { variable, mention };
+        let head = slots[variable].cell;
+        match add_mention(cells, rings, head, cell) {
+            Ok(()) => {}
+            Err(NoMemory) => {
+                cut_cells(cells, rings, i);
+                return Err(NoMemory);
+            }
+        }
+    }
+    Ok(())
+}
+
+// One term more, with its mentions and its key.
+fn make(parts: &mut Parts, term: Term, key: Key) -> Result<(), NoMemory>
+    requires absent { lookup (is_key_of key.sign key.args.items) parts.old.table.entries ≡ None }
+    requires inside { IsInside parts.old.rings }
+    requires heads { AllByRecursion (λ a. (a < length parts.old.slots.items) × (slice_index (heads_of parts.old.slots.items) a < length parts.old.rings)) term.args }
+    ensures ok { OnOk result (fields parts.new ≡ made term key (fields parts.old)) }
+    ensures err { OnErr result (fields parts.new ≡ fields parts.old) }
+{
+    let number = parts.terms.len();
+    let count = term.args.len();
+    let keys = parts.table.len();
+    add_mentions(
+        &mut parts.cells,
+        &mut parts.rings,
+        &parts.slots,
+        number,
+        &term.args,
+    )?;
+    match add_key(&mut parts.table, key, number) {
+        Ok(()) => {}
+        Err(NoMemory) => {
+            cut_cells(&mut parts.cells, &mut parts.rings, count);
+            return Err(NoMemory);
+        }
+    }
+    match parts.terms.push(term) {
+        Ok(()) => {}
+        Err(_) => {
+            parts.table.truncate(keys);
+            cut_cells(&mut parts.cells, &mut parts.rings, count);
+            return Err(NoMemory);
+        }
+    }
+    Ok(())
+}
+
+/// A new term under this key, which is not there.
+pub fn intern(
+    alloc: Global,
+    parts: &mut Parts,
+    trail: &mut Vec<Change>,
+    symbol: Symbol,
+    key: Key,
+) -> Result<usize, NoMemory>
+    requires absent { lookup (is_key_of key.sign key.args.items) parts.old.table.entries ≡ None }
+    requires inside { IsInside parts.old.rings }
+    requires heads { AllByRecursion (λ a. (a < length parts.old.slots.items) × (slice_index (heads_of parts.old.slots.items) a < length parts.old.rings)) key.args.items }
+    ensures number { IfOk result (λ t. t ≡ length parts.old.terms.items) }
+    ensures fields { OnOk result (fields parts.new ≡ made (record { symbol = symbol; args = key.args.items }) key (fields parts.old)) }
+    ensures trail { OnOk result (trail.new.items ≡ trail.old.items ++ Change.Interned ∷ []) }
+    ensures fields_err { OnErr result (fields parts.new ≡ fields parts.old) }
+    ensures trail_err { OnErr result (trail.new.items ≡ trail.old.items) }
+{
+    let number = parts.terms.len();
+    let args = args_of(alloc, key.args.as_slice())?;
+    let term = Term { symbol, args };
+    if trail.push(Change::Interned).is_err() {
+        return Err(NoMemory);
+    }
+    if make(parts, term, key).is_err() {
+        trail.pop();
+        return Err(NoMemory);
+    }
+    Ok(number)
+}
+
+// The key of the symbol with the roots of these arguments.
+fn key_of(alloc: Global, slots: &Vec<Slot>, symbol: Symbol, args: &[usize]) -> Result<Key, NoMemory>
+    requires within { All (λ x. x < length slots.now.items) args.now }
+    requires forest { IsForest (bindings_of slots.now.items) }
+    ensures { IfOk result (λ key. (key.sign ≡ sign_of symbol) × (key.args.items ≡ map (root (bindings_of slots.now.items)) args.now)) }
+{
+    let keys = roots_of(alloc, slots, args)?;
+    let sign = sign_key(symbol);
+    Ok(Key { sign, args: keys })
+}
+
+/// What stands under the symbol with the roots of these arguments.
+pub fn shared(
+    alloc: Global,
+    parts: &Parts,
+    symbol: Symbol,
+    args: &[usize],
+) -> Result<Option<usize>, NoMemory>
+    requires within { All (λ x. x < length parts.now.slots.items) args.now }
+    requires good { IsGood (fields parts.now) }
+    ensures { IfOk result (IsLeader (bindings_of parts.now.slots.items) parts.now.terms.items symbol (map (root (bindings_of parts.now.slots.items)) args.now)) }
+{
+    let key = key_of(alloc, &parts.slots, symbol, args)?;
+    let found = find_key(&parts.table, &key);
+    Ok(found)
+}
+
+/// The least term with this symbol and the roots of these arguments, else a new one.
+pub fn share(
+    alloc: Global,
+    parts: &mut Parts,
+    trail: &mut Vec<Change>,
+    symbol: Symbol,
+    args: &[usize],
+) -> Result<usize, NoMemory>
+    requires within { All (λ x. x < length parts.old.slots.items) args.now }
+    requires good { IsGood (fields parts.old) }
+    ensures ok { IfOk result (λ t. IsInternedIn (fields parts.old) (fields parts.new) trail.old.items trail.new.items symbol (map (root (bindings_of parts.old.slots.items)) args.now) t) }
+    ensures fields_err { OnErr result (fields parts.new ≡ fields parts.old) }
+    ensures trail_err { OnErr result (trail.new.items ≡ trail.old.items) }
+{
+    let key = key_of(alloc, &parts.slots, symbol, args)?;
+    match find_key(&parts.table, &key) {
+        Some(t) => Ok(t),
+        None => intern(alloc, parts, trail, symbol, key),
+    }
 }
 
 // Takes the last cells away, so many of them.

@@ -14,10 +14,12 @@ some c =
 long : (c : goal.After-truncate) → length (nexts c.self.inside.cells.items) ≡ (c.len-last.result - 1) + 1
 long c = length-map c.self.inside.cells.items (λ l. l.next) ∙ some c
 
-cut : (c : goal.After-truncate) → nexts c.exchange.new.cells.items ≡ exchanged (get_or (previouses c.self.inside.cells.items) (c.len-last.result - 1) 0) (c.len-last.result - 1) (nexts c.self.inside.cells.items)
+cut : (c : goal.After-truncate)
+    → nexts c.exchange.new.cells.items ≡ exchanged (get_or (previouses c.self.inside.cells.items) (c.len-last.result - 1) 0) (c.len-last.result - 1) (nexts c.self.inside.cells.items)
 cut c = c.exchange.ensures.exchanged ∙ ap (λ k. exchanged k (c.len-last.result - 1) (nexts c.self.inside.cells.items)) c.previous_of-before.ensures
 
-now : (c : goal.After-truncate) → nexts c.truncate.new.self.items ≡ take (c.len-last.result - 1) (exchanged (get_or (previouses c.self.inside.cells.items) (c.len-last.result - 1) 0) (c.len-last.result - 1) (nexts c.self.inside.cells.items))
+now : (c : goal.After-truncate)
+    → nexts c.truncate.new.self.items ≡ take (c.len-last.result - 1) (exchanged (get_or (previouses c.self.inside.cells.items) (c.len-last.result - 1) 0) (c.len-last.result - 1) (nexts c.self.inside.cells.items))
 now c = cut_off c.self.inside.cells.items c.exchange.new.cells.items c.truncate.new.self.items (c.len-last.result - 1) (some c) (cut c) c.truncate.ensures.items
 
 shorter : (c : goal.After-truncate) → length (nexts c.truncate.new.self.items) ≡ c.len-last.result - 1

@@ -1,4 +1,4 @@
-use Rattle.std.proofs.Common.{◌≡◌, ◌-◌, ◌<◌, ℕ, zero, suc, List, length, arith, sym, ◌∙◌, ap, refl}
+use Rattle.std.proofs.Common.{◌≡◌, ◌-◌, ℕ, suc, List, arith, sym, ◌∙◌, ap}
 use Rattle.index_lists.specs.Rings.{without_last}
 use Rattle.term_graph.specs.Fields.{cut_off}
 use Rattle.term_graph.proofs.parts.cut_cells.Goals as goal

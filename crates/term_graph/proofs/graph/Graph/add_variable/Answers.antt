@@ -1,4 +1,3 @@
-use Rattle.std.specs.Prelude.{reverse}
 use Rattle.term_graph.specs.Fields.{fields}
 use Rattle.term_graph.proofs.Adding.{added-good_by, added-is_by}
 use Rattle.term_graph.proofs.graph.Graph.add_variable.Goals as goal
