@@ -148,6 +148,20 @@ abbrev pub invariant-loop-i : goal.invariant-loop-i
 invariant-loop-i l = (m : ℕ) → l.start + l.count < m → BasicOver m l.atoms
 '''
 
+ANSWERS = '''use Rattle.std.proofs.Common.{List, [], ◌∷◌, sym, subst, arith}
+use Rattle.std.proofs.lemmas.List.Elements.{All-nil, All-cons, All-append}
+use Rattle.flat_form.specs.declared.atom.Flat.{Flat}
+use Rattle.flat_form.specs.Numbering.{AtomOver, BasicOver}
+use Rattle.clock.proofs.chain.Goals as goal
+
+pub loop-i-preserved : goal.loop-i-preserved
+loop-i-preserved c m less =
+    let atom = c.in_ok-atom.atom in
+    subst (λ (z : List Flat). BasicOver m z) (sym c.in_ok-push.ensures.ok)
+    (All-append (AtomOver m) c.loop-i.atoms (atom ∷ []) (c.loop-i.invariant m less)
+    (All-cons (AtomOver m) atom [] (c.in_ok-atom.ensures m (omega (arith, less, c.loop-i-test.true)) (omega (arith, less, c.loop-i-test.true))) (All-nil (AtomOver m))))
+'''
+
 
 def reader(top):
     """The functions of the tests that read a cube."""
@@ -195,7 +209,8 @@ def build(top, folder):
             if os.path.isdir(old):
                 shutil.copytree(old, os.path.join(folder, 'crates', crate, part))
     clock = os.path.join(folder, 'crates', 'clock')
-    files = {'src/main.rt': PROGRAM.replace('READER', reader(top)), 'proofs/chain/Invariants.antt': INVARIANT}
+    files = {'src/main.rt': PROGRAM.replace('READER', reader(top)), 'proofs/chain/Invariants.antt': INVARIANT,
+             'proofs/chain/Answers.antt': ANSWERS}
     for name in ('basic', 'cube'):
         with open(os.path.join(top, 'crates', 'cube_reduction', 'proofs', 'tests', name, 'Invariants.antt')) as file:
             files['proofs/%s/Invariants.antt' % name] = file.read().replace('Rattle.cube_reduction.proofs.tests.', 'Rattle.clock.proofs.')
