@@ -3,7 +3,9 @@ pub mod FlagsOf
 pub mod GroupedCube
 pub mod IsCleared
 pub mod IsOrdered
+pub mod KeepingNumbers
 pub mod KeptAtoms
+pub mod Lasting
 pub mod NewNumbers
 pub mod Outcomes
 pub mod Regrouped
@@ -11,4 +13,5 @@ pub mod Remembered
 pub mod RenumberedParts
 pub mod SettledParts
 pub mod Taken
+pub mod Unchanged
 pub mod WithoutIdle

@@ -1,5 +1,5 @@
 -- A grouped cube's basic in its last numbers.
-use Rattle.std.specs.Prelude.{ℕ, ◌+◌, List, ◌++◌, length, Contains, ◌↔◌}
+use Rattle.std.specs.Prelude.{◌≡◌, ℕ, ◌+◌, List, [], ◌++◌, length, Contains, ◌↔◌}
 use Rattle.lists.specs.Distinct.{IsDistinct}
 use Rattle.flat_form.specs.declared.atom.Flat.{Flat}
 use Rattle.flat_form.specs.declared.cube.Cube.{Cube}
@@ -21,3 +21,9 @@ pub record IsOrdered (cube : Cube) (idle order : List ℕ) (basic : List Flat) :
   pub basic_is : IsRenumbering (new_number cube.free (cube.free + cube.outer) (order ++ idle)) (λ (atom : Flat). ¬ Contains idle (variable_of atom))
       cube.basic basic
   pub numbered : IsNumbered cube.free (cube.free + length order) basic
+
+-- no variable is idle, the basic is the cube's, and each variable keeps its number
+pub record KeepsNumbers (cube : Cube) (idle order : List ℕ) (basic : List Flat) : Type 0 where
+  pub none_idle : idle ≡ []
+  pub basic_is : basic ≡ cube.basic
+  pub number : (v : ℕ) → new_number cube.free (cube.free + cube.outer) order v ≡ v

@@ -6,13 +6,12 @@ ghost use Rattle.flat_form.specs.declared.atom.Flat.{Flat};
 ghost use Rattle.flat_form.specs.Orders.{new_number, renumbered_part};
 ghost use Rattle.flat_form.specs.Solved.{variable_of, Ascends};
 ghost use Rattle.flat_form.specs.Steps.{Mentions, WithoutIdle, Settles, IsCleared};
-ghost use Rattle.cube_reduction.specs.Ordering.{WasGrouped, IsOrdered};
+ghost use Rattle.cube_reduction.specs.Ordering.{WasGrouped, IsOrdered, KeepsNumbers};
 
-use crate::memory::Memory;
 use crate::numbers::Numbers;
 use crate::over::{Over, copy_onto};
 use crate::settling::all_settled;
-use flat_form::{Basic, Cube, Flat, Part, Parts, variable};
+use flat_form::{Basic, Cube, Flat, Part, Parts, is_same_basic, variable};
 use lists::{Copied, List, NoMemory};
 use numbering::{finish, met, number_all};
 use reachability::mentions;
@@ -78,7 +77,12 @@ fn atoms_without(alloc: Global, vs: &[usize], atoms: &[Flat]) -> Result<Basic, N
 }
 
 // The cube's basic without its idle variables, the others numbered by first occurrence.
-fn in_order(alloc: Global, mid: &Cube, scope: usize, idle: &[usize]) -> Result<Ordered, NoMemory>
+pub(crate) fn in_order(
+    alloc: Global,
+    mid: &Cube,
+    scope: usize,
+    idle: &[usize],
+) -> Result<Ordered, NoMemory>
     requires scope { scope ≡ mid.now.free + mid.now.outer }
     requires grouped { WasGrouped mid.now idle.now }
     ensures { IfOk result (λ found. IsOrdered mid.now idle.now found.order found.basic) }
@@ -89,6 +93,26 @@ fn in_order(alloc: Global, mid: &Cube, scope: usize, idle: &[usize]) -> Result<O
     Ok(Ordered { order, basic })
 }
 
+// Whether no variable is idle, and the basic and each variable stay as they are.
+pub(crate) fn keeps_numbers(
+    alloc: Global,
+    mid: &Cube,
+    scope: usize,
+    idle: &[usize],
+    ordered: &Ordered,
+) -> Result<bool, NoMemory>
+    requires scope { scope ≡ mid.now.free + mid.now.outer }
+    requires grouped { WasGrouped mid.now idle.now }
+    requires ordered { IsOrdered mid.now idle.now ordered.now.order ordered.now.basic }
+    ensures { IfOk result (λ same. IsTrue same → KeepsNumbers mid.now idle.now ordered.now.order ordered.now.basic) }
+{
+    if idle.len() != 0 || !is_same_basic(&mid.basic, &ordered.basic) {
+        return Ok(false);
+    }
+    let numbers = Numbers::new(alloc, mid.free, scope, ordered.order.as_slice())?;
+    Ok(numbers.keep_all())
+}
+
 // The parts, with the variables of the order numbered first and the idle ones next.
 fn renumbered(
     alloc: Global,
@@ -96,12 +120,12 @@ fn renumbered(
     scope: usize,
     order: &[usize],
     idle: &[usize],
-    parts: &[Part],
+    parts: Parts,
 ) -> Result<Parts, NoMemory>
     requires low { free ≤ scope }
     requires distinct { IsDistinct (order.now ++ idle.now) }
     requires within { All (λ v. (free ≤ v) × (v < scope)) (order.now ++ idle.now) }
-    ensures { IfOk result (λ new. new ≡ map (renumbered_part (new_number free scope (order.now ++ idle.now)) (length idle.now)) parts.now) }
+    ensures { IfOk result (λ new. new ≡ map (renumbered_part (new_number free scope (order.now ++ idle.now)) (length idle.now)) parts) }
 {
     let mut all = List::new(alloc);
     copy_onto(alloc, &mut all, order)?;
@@ -113,33 +137,26 @@ fn renumbered(
 // The grouped cube with its settled parts, without its idle variables.
 pub(crate) fn cleared(
     alloc: Global,
-    memory: &mut Memory,
     mid: &Cube,
+    scope: usize,
     idle: &[usize],
+    ordered: Ordered,
     first: &[Part],
 ) -> Result<Cube, NoMemory>
+    requires scope { scope ≡ mid.now.free + mid.now.outer }
     requires grouped { WasGrouped mid.now idle.now }
+    requires ordered { IsOrdered mid.now idle.now ordered.order ordered.basic }
     requires settled { Settles (mid.now.free + mid.now.outer) mid.now.basic mid.now.parts first.now }
     ensures { IfOk result (IsCleared mid.now idle.now first.now) }
 {
-    let Some(scope) = mid.free.checked_add(mid.outer) else {
-        return Err(NoMemory);
-    };
     let busy = busy(alloc, idle, first)?;
-    let Ordered { order, basic } = in_order(alloc, mid, scope, idle)?;
+    let Ordered { order, basic } = ordered;
     let Some(count) = mid.free.checked_add(order.len()) else {
         return Err(NoMemory);
     };
-    let moved = renumbered(
-        alloc,
-        mid.free,
-        scope,
-        order.as_slice(),
-        idle,
-        busy.as_slice(),
-    )?;
+    let moved = renumbered(alloc, mid.free, scope, order.as_slice(), idle, busy)?;
     let over = Over { count, base: basic };
-    let second = all_settled(alloc, memory, &over, moved.as_slice())?;
+    let second = all_settled(alloc, &over, moved.as_slice())?;
     let parts = finish(alloc, count, second.as_slice())?;
     Ok(Cube {
         free: mid.free,

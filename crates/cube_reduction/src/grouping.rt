@@ -86,7 +86,7 @@ fn atoms_from(alloc: Global, m: usize, atoms: &[Flat]) -> Result<Basic, NoMemory
 // move into each part, with their atoms.
 fn regrouped(
     alloc: Global,
-    raw: &Cube,
+    raw: Cube,
     form: &Basic,
     numbers: &Numbers,
     order: &[usize],
@@ -94,11 +94,11 @@ fn regrouped(
     more: usize,
 ) -> Result<Cube, NoMemory>
     requires ascends { Ascends form.now }
-    requires over { BasicOver (raw.now.free + raw.now.outer) form.now }
+    requires over { BasicOver (raw.free + raw.outer) form.now }
     requires distinct { IsDistinct order.now }
-    requires order { (v : ℕ) → Contains order.now v ↔ IsOuter raw.now.free raw.now.outer v }
-    requires numbers { number_in numbers.now.table.items numbers.now.behind ≡ number_by raw.now order.now }
-    ensures { IfOk result (IsRegrouped raw.now form.now order.now kept more) }
+    requires order { (v : ℕ) → Contains order.now v ↔ IsOuter raw.free raw.outer v }
+    requires numbers { number_in numbers.now.table.items numbers.now.behind ≡ number_by raw order.now }
+    ensures { IfOk result (IsRegrouped raw form.now order.now kept more) }
 {
     let Some(scope) = raw.free.checked_add(raw.outer) else {
         return Err(NoMemory);
@@ -109,7 +109,7 @@ fn regrouped(
     let all = number_all(alloc, raw.free, scope, order, form)?;
     let basic = atoms_below(alloc, m, all.as_slice())?;
     let moved = atoms_from(alloc, m, all.as_slice())?;
-    let parts = numbers.of_parts(alloc, more, &moved, raw.parts.as_slice())?;
+    let parts = numbers.of_parts(alloc, more, &moved, raw.parts)?;
     Ok(Cube {
         free: raw.free,
         outer: kept,
@@ -119,10 +119,10 @@ fn regrouped(
 }
 
 // The raw cube without its determined variables, where this is the solved form of its basic.
-pub(crate) fn group(alloc: Global, raw: &Cube, form: &Basic) -> Result<Grouped, NoMemory>
-    requires over { IsWellNumbered raw.now }
-    requires solved { IsSolvedForm raw.now.basic form.now }
-    ensures { IfOk result (λ found. IsGrouped raw.now found.mid found.idle) }
+pub(crate) fn group(alloc: Global, raw: Cube, form: &Basic) -> Result<Grouped, NoMemory>
+    requires over { IsWellNumbered raw }
+    requires solved { IsSolvedForm raw.basic form.now }
+    ensures { IfOk result (λ found. IsGrouped raw found.mid found.idle) }
 {
     let Some(scope) = raw.free.checked_add(raw.outer) else {
         return Err(NoMemory);

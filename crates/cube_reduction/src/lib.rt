@@ -3,6 +3,7 @@
 
 mod clearing;
 mod digests;
+mod fates;
 mod grouping;
 mod memory;
 mod numbers;

@@ -1,32 +1,32 @@
-//! What parts were settled to, so that none is settled twice over one conjunction.
+//! What became of parts, so that none is settled twice over one conjunction.
 ghost use Rattle.std.specs.Prelude.{◌≡◌, List, slice_get, Some, IfOk, IfSome};
 ghost use Rattle.flat_form.specs.declared.atom.Flat.{Flat};
-ghost use Rattle.cube_reduction.specs.Remembered.{ComesTo};
+ghost use Rattle.cube_reduction.specs.Fates.{Becomes};
 
 use crate::digests::{digest_basic, digest_part};
+use crate::fates::Fate;
 use flat_form::{Basic, Part, is_same_basic, is_same_part};
 use lists::{Copied, List, NoMemory};
 use std::alloc::Global;
 use std::collections::HashMap;
 use std::marker::Model;
 
-// A part over the first `count` variables and the conjunction at a place, and what it was settled to. None where it has
-// no solution beside this.
+// A part over the first `count` variables and the conjunction at a place, and what became of it.
 #[derive(Debug, Drop)]
-struct Settled {
+struct Known {
     base: usize,
     count: usize,
     part: Part,
-    outcome: Option<Part>,
+    fate: Fate,
 }
 
-/// Solved conjunctions, each at its place, and what parts were settled to over them. Contracts see the conjunctions.
+/// Solved conjunctions, each at its place, and what became of parts over them. Contracts see the conjunctions.
 ///
 /// The tables say where to look, and what is found there is compared. So a part may be forgotten, but none is mistaken.
 #[derive(Drop)]
 pub struct Memory {
     bases: List<Basic>,
-    settled: List<Settled>,
+    known: List<Known>,
     by_base: HashMap<u64, usize>,
     by_part: HashMap<(usize, usize, u64), usize>,
 }
@@ -40,17 +40,7 @@ impl Model for Memory {
 
     ghost view = { λ m. m.bases };
 
-    ghost invariant = { λ m. All (IsRight m.bases) m.settled };
-}
-
-/// A copy of the part, where there is one.
-pub(crate) fn copied(alloc: Global, part: &Option<Part>) -> Result<Option<Part>, NoMemory>
-    ensures { IfOk result (λ copy. copy ≡ part.now) }
-{
-    match part {
-        Some(part) => Ok(Some(part.copy(alloc)?)),
-        None => Ok(None),
-    }
+    ghost invariant = { λ m. All (IsRight m.bases) m.known };
 }
 
 impl Memory {
@@ -58,14 +48,14 @@ impl Memory {
     pub fn new(alloc: Global) -> Memory {
         Memory {
             bases: List::new(alloc),
-            settled: List::new(alloc),
+            known: List::new(alloc),
             by_base: HashMap::new(alloc),
             by_part: HashMap::new(alloc),
         }
     }
 
     // The place of the conjunction, if the table leads there.
-    fn known(&self, digest: u64, base: &Basic) -> Option<usize>
+    fn place(&self, digest: u64, base: &Basic) -> Option<usize>
         ensures { IfSome result (λ place. slice_get self.now place ≡ Some base.now) }
     {
         let place = *self.by_base.get(&digest)?;
@@ -81,7 +71,7 @@ impl Memory {
         ensures { IfOk result (λ place. slice_get self.new place ≡ Some base.now) }
     {
         let digest = digest_basic(base);
-        if let Some(place) = self.known(digest, base) {
+        if let Some(place) = self.place(digest, base) {
             return Ok(place);
         }
         let place = self.bases.len();
@@ -90,52 +80,40 @@ impl Memory {
         Ok(place)
     }
 
-    /// What the part comes to over the conjunction at this place, if the table leads there.
-    pub(crate) fn recall(
-        &self,
-        alloc: Global,
-        place: usize,
-        count: usize,
-        part: &Part,
-    ) -> Result<Option<Option<Part>>, NoMemory>
-        ensures { IfOk result (λ known. IfSome known (λ outcome. (base : List Flat) → slice_get self.now place ≡ Some base → ComesTo count base part.now outcome)) }
+    /// What becomes of the part over the conjunction at this place, if the table leads there.
+    pub(crate) fn recall(&self, place: usize, count: usize, part: &Part) -> Option<&Fate>
+        ensures { IfSome result (λ fate. (base : List Flat) → slice_get self.now place ≡ Some base → Becomes count base part.now fate.now) }
     {
-        let Some(i) = self
-            .by_part
-            .get(&(place, count, digest_part(part)))
-            .copied()
-        else {
-            return Ok(None);
-        };
-        if i >= self.settled.len() {
-            return Ok(None);
+        let i = *self.by_part.get(&(place, count, digest_part(part)))?;
+        if i >= self.known.len() {
+            return None;
         }
-        let known = self.settled.get(i);
+        let known = self.known.get(i);
         if known.base == place && known.count == count && is_same_part(&known.part, part) {
-            Ok(Some(copied(alloc, &known.outcome)?))
+            Some(&known.fate)
         } else {
-            Ok(None)
+            None
         }
     }
 
-    /// Notes what the part comes to over the conjunction at this place.
+    /// Notes what becomes of the part over the conjunction at this place.
     pub(crate) fn note(
         &mut self,
         place: usize,
         count: usize,
         part: Part,
-        outcome: Option<Part>,
+        fate: Fate,
     ) -> Result<(), NoMemory>
-        requires { (base : List Flat) × (slice_get self.old place ≡ Some base) × ComesTo count base part outcome }
+        requires { (base : List Flat) × (slice_get self.old place ≡ Some base) × Becomes count base part fate }
         ensures { self.new ≡ self.old }
     {
-        let i = self.settled.len();
+        let i = self.known.len();
         let key = (place, count, digest_part(&part));
-        self.settled.push(Settled {
+        self.known.push(Known {
             base: place,
             count,
             part,
-            outcome,
+            fate,
         })?;
         self.by_part.insert(key, i)?;
         Ok(())

@@ -1,5 +1,5 @@
 //! New numbers of variables by their places in an order, and atoms and parts with them.
-ghost use Rattle.std.specs.Prelude.{◌≡◌, ◌<◌, ◌≤◌, ◌++◌, map, length, IfOk, OnOk, All};
+ghost use Rattle.std.specs.Prelude.{◌≡◌, ◌<◌, ◌≤◌, ◌++◌, ℕ, map, length, IfOk, OnOk, IsTrue, All};
 ghost use Rattle.flat_form.specs.Orders.{new_number};
 ghost use Rattle.flat_form.specs.Parts.{renumbered};
 ghost use Rattle.lists.specs.Distinct.{IsDistinct};
@@ -115,18 +115,36 @@ impl Numbers {
         Ok(Part { inner, basic })
     }
 
-    // So for each of the parts.
+    // Whether each variable keeps its number.
+    pub(crate) fn keep_all(&self) -> bool
+        ensures { IsTrue result → (v : ℕ) → number_in self.now.table.items self.now.behind v ≡ v }
+    {
+        if self.behind != self.table.len() {
+            return false;
+        }
+        for v in 0..self.table.len() {
+            if self.table[v] != v {
+                return false;
+            }
+        }
+        true
+    }
+
+    // So for each of the parts, which stay as they are where nothing changes.
     pub(crate) fn of_parts(
         &self,
         alloc: Global,
         more: usize,
         moved: &Basic,
-        parts: &[Part],
+        parts: Parts,
     ) -> Result<Parts, NoMemory>
-        ensures { IfOk result (λ new. new ≡ map (moved_into (number_in self.now.table.items self.now.behind) more moved.now) parts.now) }
+        ensures { IfOk result (λ new. new ≡ map (moved_into (number_in self.now.table.items self.now.behind) more moved.now) parts) }
     {
+        if more == 0 && moved.len() == 0 && self.keep_all() {
+            return Ok(parts);
+        }
         let mut new = Parts::new(alloc);
-        for part in parts {
+        for part in parts.as_slice() {
             new.push(self.of_part(alloc, more, moved, part)?)?;
         }
         Ok(new)

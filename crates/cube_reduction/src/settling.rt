@@ -1,20 +1,19 @@
 //! Parts over a solved conjunction: what each adds to it, without what its variables do not reach.
-ghost use Rattle.std.specs.Prelude.{◌≡◌, [], IfOk, MatchOption, All, Contains, Some, slice_get};
+ghost use Rattle.std.specs.Prelude.{◌≡◌, [], IfOk, MatchOption, All, Contains};
 ghost use Rattle.flat_form.specs.declared.cube.Part.{Part};
 ghost use Rattle.flat_form.specs.Numbering.{BasicOver, PartOver};
 ghost use Rattle.flat_form.specs.Solved.{IsDirect};
 ghost use Rattle.flat_form.specs.Steps.{Settles, IsImplied};
-ghost use Rattle.cube_reduction.specs.Remembered.{ComesTo};
+ghost use Rattle.cube_reduction.specs.Settling.{ComesTo};
 
-use crate::memory::{Memory, copied};
 use crate::over::Over;
 use crate::pruning::pruned;
 use flat_form::{Part, Parts};
-use lists::{Copied, NoMemory};
+use lists::NoMemory;
 use std::alloc::Global;
 
 // What the part comes to over the base. None where it has no solution beside it.
-fn settled_anew(alloc: Global, over: &Over, part: &Part) -> Result<Option<Part>, NoMemory>
+pub(crate) fn settled(alloc: Global, over: &Over, part: &Part) -> Result<Option<Part>, NoMemory>
     requires direct { IsDirect over.now.base }
     requires base { BasicOver over.now.count over.now.base }
     requires part { PartOver over.now.count part.now }
@@ -36,50 +35,16 @@ fn settled_anew(alloc: Global, over: &Over, part: &Part) -> Result<Option<Part>,
     }
 }
 
-// The same, unless it is remembered. The base stands at this place of the memory.
-fn settled(
-    alloc: Global,
-    memory: &mut Memory,
-    place: usize,
-    over: &Over,
-    part: &Part,
-) -> Result<Option<Part>, NoMemory>
-    requires place { slice_get memory.old place ≡ Some over.now.base }
-    requires direct { IsDirect over.now.base }
-    requires base { BasicOver over.now.count over.now.base }
-    requires part { PartOver over.now.count part.now }
-    ensures kept { memory.new ≡ memory.old }
-    ensures outcome { IfOk result (ComesTo over.now.count over.now.base part.now) }
-{
-    if let Some(outcome) = memory.recall(alloc, place, over.count, part)? {
-        return Ok(outcome);
-    }
-    let outcome = settled_anew(alloc, over, part)?;
-    memory.note(
-        place,
-        over.count,
-        part.copy(alloc)?,
-        copied(alloc, &outcome)?,
-    )?;
-    Ok(outcome)
-}
-
 // What the parts come to over the base, without those that have no solution beside it.
-pub(crate) fn all_settled(
-    alloc: Global,
-    memory: &mut Memory,
-    over: &Over,
-    parts: &[Part],
-) -> Result<Parts, NoMemory>
+pub(crate) fn all_settled(alloc: Global, over: &Over, parts: &[Part]) -> Result<Parts, NoMemory>
     requires direct { IsDirect over.now.base }
     requires base { BasicOver over.now.count over.now.base }
     requires parts { All (PartOver over.now.count) parts.now }
     ensures { IfOk result (Settles over.now.count over.now.base parts.now) }
 {
-    let place = memory.place_of(alloc, &over.base)?;
     let mut all = Parts::new(alloc);
     for part in parts {
-        let found = settled(alloc, memory, place, over, part)?;
+        let found = settled(alloc, over, part)?;
         match found {
             Some(new) => all.push(new)?,
             None => {}
@@ -91,7 +56,6 @@ pub(crate) fn all_settled(
 // The same, unless a part comes to nothing, so that it holds wherever the base does. None at the first such part.
 pub(crate) fn settled_unless_implied(
     alloc: Global,
-    memory: &mut Memory,
     over: &Over,
     parts: &[Part],
 ) -> Result<Option<Parts>, NoMemory>
@@ -101,10 +65,9 @@ pub(crate) fn settled_unless_implied(
     ensures { IfOk result (λ found. MatchOption found ((part : Part) × Contains parts.now part × IsImplied over.now.count over.now.base part)
         (λ all. Settles over.now.count over.now.base parts.now all × ((part : Part) → Contains all part → ¬ (part.basic ≡ [])))) }
 {
-    let place = memory.place_of(alloc, &over.base)?;
     let mut all = Parts::new(alloc);
     for part in parts {
-        let found = settled(alloc, memory, place, over, part)?;
+        let found = settled(alloc, over, part)?;
         match found {
             Some(new) => {
                 if new.basic.len() == 0 {

@@ -63,7 +63,7 @@ fn first(alloc: Global, memory: &mut Memory, free: usize, basic: &Basic) -> Resu
         parts: Parts::new(alloc),
     };
     let mut out = Cubes::new(alloc);
-    take(alloc, memory, &mut out, &raw)?;
+    take(alloc, memory, &mut out, raw)?;
     Ok(out)
 }
 

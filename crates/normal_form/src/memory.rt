@@ -146,11 +146,11 @@ impl Memory {
     }
 
     /// What the steps on the raw cube come to.
-    pub(crate) fn reduce(&mut self, alloc: Global, raw: &Cube) -> Result<Option<Cube>, NoMemory>
-        requires { IsWellNumbered raw.now }
+    pub(crate) fn reduce(&mut self, alloc: Global, raw: Cube) -> Result<Option<Cube>, NoMemory>
+        requires { IsWellNumbered raw }
         ensures kept { self.new ≡ self.old }
-        ensures outcome { IfOk result (Outcome raw.now) }
-        ensures over { IfOk result (λ found. IfSome found (λ cube. (cube.free ≡ raw.now.free) × IsWellNumbered cube)) }
+        ensures outcome { IfOk result (Outcome raw) }
+        ensures over { IfOk result (λ found. IfSome found (λ cube. (cube.free ≡ raw.free) × IsWellNumbered cube)) }
     {
         reduce_by(alloc, &mut self.parts, raw)
     }
@@ -175,7 +175,7 @@ impl Memory {
             return Ok(outcome);
         }
         let raw = join(alloc, one, other)?;
-        let outcome = match self.reduce(alloc, &raw)? {
+        let outcome = match self.reduce(alloc, raw)? {
             Some(cube) => Some(self.keep(cube)?),
             None => None,
         };

@@ -134,7 +134,7 @@ pub(crate) fn exists_by(
     let mut out = Cubes::new(alloc);
     for cube in a.as_slice() {
         let raw = open(alloc, quantified, cube)?;
-        take(alloc, memory, &mut out, &raw)?;
+        take(alloc, memory, &mut out, raw)?;
     }
     Ok(out)
 }

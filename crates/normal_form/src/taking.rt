@@ -49,11 +49,11 @@ pub(crate) fn take(
     alloc: Global,
     memory: &mut Memory,
     out: &mut Cubes,
-    raw: &Cube,
+    raw: Cube,
 ) -> Result<(), NoMemory>
-    requires over { IsWellNumbered raw.now }
-    ensures over { OnOk result (CubesOver raw.now.free out.old → CubesOver raw.now.free out.new) }
-    ensures takes { OnOk result (Continues out.old (raw.now ∷ []) out.new) }
+    requires over { IsWellNumbered raw }
+    ensures over { OnOk result (CubesOver raw.free out.old → CubesOver raw.free out.new) }
+    ensures takes { OnOk result (Continues out.old (raw ∷ []) out.new) }
 {
     match memory.reduce(alloc, raw)? {
         Some(cube) => push_new(out, cube),
@@ -69,7 +69,7 @@ pub(crate) fn take_all(alloc: Global, memory: &mut Memory, raws: &[Cube]) -> Res
 {
     let mut out = Cubes::new(alloc);
     for raw in raws {
-        take(alloc, memory, &mut out, raw)?;
+        take(alloc, memory, &mut out, raw.copy(alloc)?)?;
     }
     Ok(out)
 }

@@ -10,7 +10,7 @@ pub returns : goal.returns
 returns c =
     let order = c.args.order.now in
     let idle = c.args.idle.now in
-    let parts = c.args.parts.now in
+    let parts = c.args.parts in
     let numbers = c.in_ok-numbers.numbers in
     let all : c.as_slice.result.now ≡ order ++ idle =
     c.as_slice.ensures ∙ c.in_ok-copy_onto-2.ensures ∙ ap (λ (z : List ℕ). z ++ idle) (c.in_ok-copy_onto.ensures ∙ ap (λ (z : List ℕ). z ++ order) c.new-all.ensures) in

@@ -6,4 +6,4 @@ use Rattle.cube_reduction.proofs.reducing.outcome_of.Goals as goal
 
 pub returns-in-None : goal.returns-in-None
 returns-in-None c =
-    Outcome.unsolvable (subst (λ (z : Option (List Flat)). IsOutcome [] c.args.raw.now.basic z) c.in-None.is c.in_ok-form.ensures)
+    Outcome.unsolvable (subst (λ (z : Option (List Flat)). IsOutcome [] c.args.raw.basic z) c.in-None.is c.in_ok-form.ensures)

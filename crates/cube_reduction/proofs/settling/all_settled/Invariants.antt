@@ -1,10 +1,5 @@
-use Rattle.std.proofs.Common.{◌≡◌, Some}
-use Rattle.std.specs.Prelude.{slice_get}
 use Rattle.cube_reduction.proofs.SettledParts.{AreSettled}
 use Rattle.cube_reduction.proofs.settling.all_settled.Given as goal
 
 abbrev pub invariant-loop-part : goal.invariant-loop-part
-invariant-loop-part l = record {
-  stands : slice_get l.memory l.place ≡ Some l.over.base;
-  settled : AreSettled l.over.count l.over.base l.parts l.part-index l.all;
-}
+invariant-loop-part l = AreSettled l.over.count l.over.base l.parts l.part-index l.all

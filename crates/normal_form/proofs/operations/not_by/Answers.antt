@@ -5,7 +5,7 @@ use Rattle.flat_form.specs.declared.cube.Cube.{Cube}
 use Rattle.flat_form.specs.Numbering.{CubesOver, IsWellNumbered}
 use Rattle.flat_form.specs.Raws.{denied}
 use Rattle.cube_facts.proofs.Raws.{raws_are_well_numbered}
-use Rattle.step_facts.specs.Lists.{TakesSteps, DeniesEach, IsNot}
+use Rattle.step_facts.specs.Lists.{TakesSteps, DeniesEach}
 use Rattle.list_facts.proofs.Takes.{Over}
 use Rattle.normal_form.proofs.Walking.{at_item, behind_last, item_in}
 use Rattle.normal_form.proofs.operations.not_by.Goals as goal

@@ -2,14 +2,14 @@ use Rattle.cube_reduction.proofs.Remembered.{right_over, right_over_more, last_s
 use Rattle.cube_reduction.proofs.memory.Memory.place_of.Goals as goal
 
 pub invariant_of-self-in_err-push : goal.invariant_of-self-in_err-push
-invariant_of-self-in_err-push c = right_over c.self.inside.bases c.push.new.self c.self.inside.settled c.self.invariant c.in_err-push.ensures.err
+invariant_of-self-in_err-push c = right_over c.self.inside.bases c.push.new.self c.self.inside.known c.self.invariant c.in_err-push.ensures.err
 
 pub invariant_of-self-in_err-insert : goal.invariant_of-self-in_err-insert
 invariant_of-self-in_err-insert c =
-    right_over_more c.self.inside.bases c.push.new.self c.in_ok-copy.field-0 c.self.inside.settled c.self.invariant c.in_ok-push.ensures.ok
+    right_over_more c.self.inside.bases c.push.new.self c.in_ok-copy.field-0 c.self.inside.known c.self.invariant c.in_ok-push.ensures.ok
 
 pub invariant_of-self-2 : goal.invariant_of-self-2
-invariant_of-self-2 c = right_over_more c.self.inside.bases c.push.new.self c.in_ok-copy.field-0 c.self.inside.settled c.self.invariant c.in_ok-push.ensures.ok
+invariant_of-self-2 c = right_over_more c.self.inside.bases c.push.new.self c.in_ok-copy.field-0 c.self.inside.known c.self.invariant c.in_ok-push.ensures.ok
 
 pub returns : goal.returns
 returns c =
