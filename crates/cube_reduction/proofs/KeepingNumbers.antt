@@ -55,7 +55,3 @@ pub order_outer : (mid : Cube) (idle order : List ℕ) (basic : List Flat) (scop
     → All (λ v. (mid.free ≤ v) × (v < scope)) order
 order_outer mid idle order basic scope is o = λ k d w.
     let outer = ((o.order_is (get_or order k d)).0 (Contains-get_or order k d w)).0 in (outer.0, omega (arith, outer.1, is))
-
-pub nothing_in : (xs : List ℕ) → length xs ≡ 0 → xs ≡ []
-nothing_in [] e = refl
-nothing_in (x ∷ xs) e = absurd (cc e)

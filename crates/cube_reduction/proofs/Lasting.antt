@@ -18,9 +18,9 @@ use Rattle.cube_reduction.specs.declared.fates.Fate.{Fate}
 use Rattle.cube_reduction.specs.Fates.{Becomes, drops, drops_then, implied, stays, IsTaken, Stay}
 use Rattle.cube_reduction.proofs.SettledParts.{AreSettled, none_settled, one_dropped, one_settled, all_are_settled, none_empty_more}
 
-no_item : (atoms : List Flat) → length atoms ≡ 0 → atoms ≡ []
-no_item [] e = refl
-no_item (atom ∷ rest) e = absurd (cc e)
+pub nothing_in : {A : Type 0} (xs : List A) → length xs ≡ 0 → xs ≡ []
+nothing_in [] e = refl
+nothing_in (x ∷ rest) e = absurd (cc e)
 
 -- a part that was settled
 module _ (m : ℕ) (base : List Flat) (part after : Part) (solved : IsSolved base) (base_over : BasicOver m base) (over : PartOver m part) (is : SettlesTo m base part after) where
@@ -35,7 +35,7 @@ module _ (m : ℕ) (base : List Flat) (part after : Part) (solved : IsSolved bas
 
 -- a part that was settled to nothing
 pub implied_by : (m : ℕ) (base : List Flat) (part after : Part) → SettlesTo m base part after → length after.basic ≡ 0 → IsImplied m base part
-implied_by m base part after is none = (is.added, is.is_added, subst (λ (z : List Flat). IsPruned m is.added z) (no_item after.basic none) is.is_pruned)
+implied_by m base part after is none = (is.added, is.is_added, subst (λ (z : List Flat). IsPruned m is.added z) (nothing_in after.basic none) is.is_pruned)
 
 module _ (m : ℕ) (base : List Flat) where
   -- one part more, which goes

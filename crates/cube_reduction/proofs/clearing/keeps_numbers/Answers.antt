@@ -2,7 +2,8 @@ use Rattle.std.proofs.Common.{ℕ, ◌≡◌, ◌+◌, ◌<◌, ◌≤◌, List,
 use Rattle.std.specs.Prelude.{All}
 use Rattle.flat_form.specs.Orders.{new_number}
 use Rattle.cube_reduction.specs.Numbers.{number_in}
-use Rattle.cube_reduction.proofs.KeepingNumbers.{order_outer, nothing_in}
+use Rattle.cube_reduction.proofs.KeepingNumbers.{order_outer}
+use Rattle.cube_reduction.proofs.Lasting.{nothing_in}
 use Rattle.cube_reduction.proofs.clearing.keeps_numbers.Goals as goal
 
 pub new-requires-clause-within : goal.new-requires-clause-within
