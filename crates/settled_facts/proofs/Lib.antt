@@ -2,6 +2,7 @@ pub mod Changing
 pub mod Closing
 pub mod FormSettled
 pub mod Forms
+pub mod More
 pub mod ReadOff
 pub mod Solvable
 pub mod Terms

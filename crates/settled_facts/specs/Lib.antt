@@ -1,3 +1,4 @@
+pub mod Additions
 pub mod Changes
 pub mod Forms
 pub mod Settled

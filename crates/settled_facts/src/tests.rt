@@ -5,4 +5,5 @@ use std::test::*;
 fn laws_can_be_called(_rt: HostRuntime) {
     change_laws();
     form_laws();
+    more_laws();
 }
