@@ -6,3 +6,4 @@ pub mod More
 pub mod ReadOff
 pub mod Solvable
 pub mod Terms
+pub mod Unchanged

@@ -54,3 +54,20 @@ abbrev pub MoreIsAdded : Type 0
 MoreIsAdded =
     (then now : Contents) (owners : List ℕ) (form more added : List Flat) → IsShaped then → IsShaped now → IsReadOff then form
     → IsSettled now owners (form ++ more) → IsSaidMore then now added ↔ IsAdded form (form ++ more) added
+
+-- nothing is said more exactly where the free variables stay free and get no mark
+abbrev pub NothingMoreWhereFreeStay : Type 0
+NothingMoreWhereFreeStay =
+    (then now : Contents) (added : List Flat) → IsShaped then → IsShaped now → IsLater then now → IsSaidMore then now added
+    → (added ≡ []) ↔ FreeStay then now
+
+-- of the variables of an unchanged root nothing is said more
+abbrev pub UnchangedSaysNoMore : Type 0
+UnchangedSaysNoMore =
+    (then now : Contents) (r : ℕ) (atom : Flat) → target_of then.bindings r ≡ None → IsUnchanged then now r → SaysMore then now atom → ¬ (name then (variable_of atom) ≡ r)
+
+-- and their head is their least
+abbrev pub UnchangedHeadIsLeast : Type 0
+UnchangedHeadIsLeast =
+    (then now : Contents) (r v h : ℕ) → IsShaped then → target_of then.bindings r ≡ None → IsUnchanged then now r → name now v ≡ r
+    → IsHeadNow then now v h ↔ IsLeast now v h

@@ -1,5 +1,5 @@
 //! Laws of settled contents, each a clause of a function that does nothing.
-ghost use Rattle.settled_facts.specs.Additions.{MoreIsAdded};
+ghost use Rattle.settled_facts.specs.Additions.{MoreIsAdded, NothingMoreWhereFreeStay, UnchangedSaysNoMore, UnchangedHeadIsLeast};
 ghost use Rattle.settled_facts.specs.Changes.{JoinRenames, ChangeKeepsShape, ChangeIsLater, LaterIsTransitive, UntouchedIsUnchanged, UnchangedIsTransitive, TouchedWasRoot};
 ghost use Rattle.settled_facts.specs.Forms.{SettledIsClosed, SettledNamesAreClasses, SettledHasForm, SaysInRange, SettledIsSolvable, ClashIsUnsolvable, LoopIsUnsolvable, FormSettles};
 
@@ -29,4 +29,7 @@ pub fn change_laws()
 /// What contents say more than at an earlier time is what was added.
 pub fn more_laws()
     ensures added { MoreIsAdded }
+    ensures nothing { NothingMoreWhereFreeStay }
+    ensures unchanged { UnchangedSaysNoMore }
+    ensures least { UnchangedHeadIsLeast }
 {}
