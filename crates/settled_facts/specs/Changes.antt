@@ -100,3 +100,15 @@ abbrev pub TouchedWasRoot : Type 0
 TouchedWasRoot =
     (before after : Contents) (touched : List ℕ) (r : ℕ) → IsShaped before → IsChange before after touched → Contains touched r
     → target_of before.bindings r ≡ None
+
+-- the change binds a free variable or marks it
+pub data TakesFree (before after : Contents) : Type 0 where
+  by_join : (v w : ℕ) → IsJoin before after v w → IsFree before v → TakesFree before after
+  by_term : (v t : ℕ) → IsTerming before after v t → TakesFree before after
+  by_mark : (v : ℕ) → IsMarking before after v → TakesFree before after
+
+-- free variables stay free and get no mark exactly where no change takes one
+abbrev pub FreeStayUnlessTaken : Type 0
+FreeStayUnlessTaken =
+    (then before after : Contents) (touched : List ℕ) → IsShaped before → IsLater then before → IsChange before after touched
+    → FreeStay then after ↔ (FreeStay then before × (¬ TakesFree before after))

@@ -1,4 +1,5 @@
 pub mod Additions
 pub mod Changes
 pub mod Forms
+pub mod Overlays
 pub mod Settled

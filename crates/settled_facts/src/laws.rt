@@ -1,7 +1,8 @@
 //! Laws of settled contents, each a clause of a function that does nothing.
 ghost use Rattle.settled_facts.specs.Additions.{MoreIsAdded, NothingMoreWhereFreeStay, UnchangedSaysNoMore, UnchangedHeadIsLeast};
-ghost use Rattle.settled_facts.specs.Changes.{JoinRenames, ChangeKeepsShape, ChangeIsLater, LaterIsTransitive, UntouchedIsUnchanged, UnchangedIsTransitive, TouchedWasRoot};
+ghost use Rattle.settled_facts.specs.Changes.{JoinRenames, ChangeKeepsShape, ChangeIsLater, LaterIsTransitive, UntouchedIsUnchanged, UnchangedIsTransitive, TouchedWasRoot, FreeStayUnlessTaken};
 ghost use Rattle.settled_facts.specs.Forms.{SettledIsClosed, SettledNamesAreClasses, SettledHasForm, SaysInRange, SettledIsSolvable, ClashIsUnsolvable, LoopIsUnsolvable, FormSettles};
+ghost use Rattle.settled_facts.specs.Overlays.{OverlayReads, TermTakenBack, MarkTakenBack, JoinTakenBack, HeadIsAmongTouched};
 
 /// What settled contents say is the solved form of their atoms, which can be solved.
 pub fn form_laws()
@@ -24,6 +25,7 @@ pub fn change_laws()
     ensures untouched { UntouchedIsUnchanged }
     ensures unchanged_yet { UnchangedIsTransitive }
     ensures roots { TouchedWasRoot }
+    ensures free { FreeStayUnlessTaken }
 {}
 
 /// What contents say more than at an earlier time is what was added.
@@ -32,4 +34,13 @@ pub fn more_laws()
     ensures nothing { NothingMoreWhereFreeStay }
     ensures unchanged { UnchangedSaysNoMore }
     ensures least { UnchangedHeadIsLeast }
+{}
+
+/// What was there before is read off an overlay of what the changes touched, and so are the heads of classes.
+pub fn overlay_laws()
+    ensures reads { OverlayReads }
+    ensures term { TermTakenBack }
+    ensures mark { MarkTakenBack }
+    ensures join { JoinTakenBack }
+    ensures heads { HeadIsAmongTouched }
 {}

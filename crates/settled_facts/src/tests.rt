@@ -6,4 +6,5 @@ fn laws_can_be_called(_rt: HostRuntime) {
     change_laws();
     form_laws();
     more_laws();
+    overlay_laws();
 }
