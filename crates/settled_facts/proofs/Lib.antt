@@ -1,5 +1,6 @@
 pub mod Changing
 pub mod Closing
+pub mod Ending
 pub mod FormSettled
 pub mod Forms
 pub mod FreeStays

@@ -1,6 +1,7 @@
 //! Laws of settled contents, each a clause of a function that does nothing.
 ghost use Rattle.settled_facts.specs.Additions.{MoreIsAdded, NothingMoreWhereFreeStay, UnchangedSaysNoMore, UnchangedHeadIsLeast};
 ghost use Rattle.settled_facts.specs.Changes.{JoinRenames, ChangeKeepsShape, ChangeIsLater, LaterIsTransitive, UntouchedIsUnchanged, UnchangedIsTransitive, TouchedWasRoot, FreeStayUnlessTaken};
+ghost use Rattle.settled_facts.specs.Ends.{EndsHasNoRound, MarkedLeavesMakeFirm};
 ghost use Rattle.settled_facts.specs.Forms.{SettledIsClosed, SettledNamesAreClasses, SettledHasForm, SaysInRange, SettledIsSolvable, ClashIsUnsolvable, LoopIsUnsolvable, FormSettles};
 ghost use Rattle.settled_facts.specs.Overlays.{OverlayReads, TermTakenBack, MarkTakenBack, JoinTakenBack, HeadIsAmongTouched};
 
@@ -43,4 +44,10 @@ pub fn overlay_laws()
     ensures mark { MarkTakenBack }
     ensures join { JoinTakenBack }
     ensures heads { HeadIsAmongTouched }
+{}
+
+/// Walks along the equations of the contents that end.
+pub fn walk_laws()
+    ensures round { EndsHasNoRound }
+    ensures firm { MarkedLeavesMakeFirm }
 {}

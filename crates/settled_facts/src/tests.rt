@@ -7,4 +7,5 @@ fn laws_can_be_called(_rt: HostRuntime) {
     form_laws();
     more_laws();
     overlay_laws();
+    walk_laws();
 }
