@@ -1,0 +1,5 @@
+pub mod Agreement
+pub mod Branches
+pub mod KeepLaws
+pub mod Nested
+pub mod Places
