@@ -1,2 +1,6 @@
 pub mod Beside
+pub mod ClosedUnder
+pub mod First
+pub mod Fitting
 pub mod Kept
+pub mod Nested

@@ -23,8 +23,9 @@ AgreesAt m under x y =
 -- where one is named.
 pub record IsTurn (m : ℕ) (under : List Flat) (x : Branch) (list : List Cube) : Type 0 where
   pub over : CubesOver m list
+  pub distinct : IsDistinct list
   pub nested : (σ : Signature) → NormFits σ (norm_in x) → BasicFits σ under → IsNested m under (norm_in x) list
-  pub reduced : (σ : Signature) → NormFits σ (norm_in x) → BasicFits σ under → All IsReduced list × IsDistinct list
+  pub reduced : (σ : Signature) → NormFits σ (norm_in x) → BasicFits σ under → All IsReduced list
   pub agrees : (σ : Signature) (e : Valuation σ) → BranchFits σ x → BasicFits σ under → BasicHolds e under → SomeHolds e list ↔ BranchHolds m e x
   pub together : (σ : Signature) → NormFits σ (norm_in x) → BasicFits σ under → All (HoldsWith σ under) list
 

@@ -1,5 +1,6 @@
 -- Negated conjunctions that are being solved: a tree of branches, each with its list once it has one.
 use Rattle.std.specs.Prelude.{ℕ, ◌+◌, Bool, true, false, not, ◌&&◌, cond, List, [], ◌∷◌, ◌++◌, Option, Some, None, MatchOption}
+use Rattle.lists.specs.Distinct.{IsDistinct}
 use Rattle.tree_model.specs.Signatures.{Signature}
 use Rattle.tree_model.specs.Valuations.{Valuation}
 use Rattle.flat_form.specs.declared.atom.Flat.{Flat}
@@ -109,10 +110,10 @@ abbrev mutual
   BranchesHold n e (one_more part rest) = BranchHolds n e part × BranchesHold n e rest
 
 abbrev mutual
-  -- a branch and its lists are well numbered over n variables, and so are its parts over those that it binds besides
+  -- a branch is well numbered over n variables, its list besides distinct, and so are its parts over those that it binds too
   pub BranchOver : ℕ → Branch → Type 0
   BranchOver n (branch bound basic parts list) =
-      BasicOver (n + bound) basic × BranchesOver (n + bound) parts × MatchOption list (Unit {0}) (CubesOver n)
+      BasicOver (n + bound) basic × BranchesOver (n + bound) parts × MatchOption list (Unit {0}) (λ cubes. CubesOver n cubes × IsDistinct cubes)
 
   pub BranchesOver : ℕ → Branches → Type 0
   BranchesOver n no_branch = Unit {0}

@@ -2,4 +2,5 @@ pub mod Agreement
 pub mod Branches
 pub mod KeepLaws
 pub mod Nested
+pub mod NestedLaws
 pub mod Places

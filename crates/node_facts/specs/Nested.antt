@@ -32,18 +32,22 @@ Keeps atoms [] out = out ≡ []
 Keeps atoms (cube ∷ cubes) out =
     (CanHold (beside atoms cube) × (rest : List Cube) × Keeps atoms cubes rest × (out ≡ cube ∷ rest)) ⊎ (NeverHolds (beside atoms cube) × Keeps atoms cubes out)
 
+-- What the lists of the parts come to, under the atoms round. They are joined with the own atoms; the bound variables are
+-- closed; and before and after that the cubes are kept that have a solution together with the atoms round.
+abbrev pub IsClosedUnder : ℕ → List Flat → ℕ → List Flat → List (List Cube) → List Cube → Type 0
+IsClosedUnder n round bound basic lists out =
+    (first : List Cube) × (all : List Cube) × (kept : List Cube) × (closed : List Cube)
+    × IsFirst n bound basic first × IsJoined first lists all × Keeps round all kept × IsClosed n bound kept closed × Keeps round closed out
+
 abbrev mutual
-  -- The list that a negated conjunction over n variables comes to, where the atoms stand round it. Without parts it is
-  -- the plain list. Else its atoms and the lists of its parts are joined, and its bound variables are closed; before
-  -- and after that the cubes are kept that have a solution together with the atoms round it.
+  -- The list that a negated conjunction over n variables comes to, under the atoms round it. Without parts it is the plain
+  -- list. Else it is what the lists of its parts come to.
   pub IsNested : ℕ → List Flat → Norm → List Cube → Type 0
   IsNested n round (norm bound basic none) out = IsPlain n (norm bound basic none) out
   IsNested n round (norm bound basic (also part parts)) out =
-      (first : List Cube) × (all : List Cube) × (kept : List Cube) × (closed : List Cube) × (lists : List (List Cube))
-      × IsFirst n bound basic first × NestedLists (n + bound) (round ++ basic) (also part parts) lists × IsJoined first lists all
-      × Keeps round all kept × IsClosed n bound kept closed × Keeps round closed out
+      (lists : List (List Cube)) × NestedLists (n + bound) (round ++ basic) (also part parts) lists × IsClosedUnder n round bound basic lists out
 
-  -- those of its parts, in order; the atoms round a part are those round the conjunction, and then its own
+  -- those of its parts, in order; round a part are the atoms round the conjunction, and then its own
   pub NestedLists : ℕ → List Flat → Norms → List (List Cube) → Type 0
   NestedLists n round none lists = lists ≡ []
   NestedLists n round (also part parts) lists =

@@ -1,5 +1,6 @@
 //! Laws of nested lists and of trees of branches, each a clause of a function that does nothing.
 ghost use Rattle.node_facts.specs.KeepLaws.{BesideMeans, KeepsMeans, KeepsTogether, KeepsShape, KeepsIsOne, KeepsAll, KeepsNone};
+ghost use Rattle.node_facts.specs.NestedLaws.{NestedMeans, NestedShape, NestedIsOne};
 
 /// What is kept of a list of cubes beside atoms.
 pub fn keep_laws()
@@ -10,4 +11,11 @@ pub fn keep_laws()
     ensures one { KeepsIsOne }
     ensures all { KeepsAll }
     ensures none { KeepsNone }
+{}
+
+/// What nested lists mean, their shape, and that there is one.
+pub fn nested_laws()
+    ensures means { NestedMeans }
+    ensures shape { NestedShape }
+    ensures one { NestedIsOne }
 {}

@@ -3,7 +3,7 @@
 
 mod laws;
 
-pub use laws::keep_laws;
+pub use laws::{keep_laws, nested_laws};
 
 #[cfg(test)]
 mod tests;

@@ -4,4 +4,5 @@ use std::test::*;
 #[test]
 fn laws_can_be_called(_rt: HostRuntime) {
     keep_laws();
+    nested_laws();
 }
