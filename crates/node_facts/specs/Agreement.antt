@@ -1,5 +1,5 @@
 -- When two branches mean the same under the atoms round them, and what the list is that a turn gives a branch.
-use Rattle.std.specs.Prelude.{ℕ, ◌+◌, List, ◌++◌, All, MatchOption, ◌↔◌}
+use Rattle.std.specs.Prelude.{◌≡◌, ℕ, ◌+◌, List, [], ◌∷◌, ◌++◌, All, Some, None, MatchOption, ◌↔◌}
 use Rattle.lists.specs.Distinct.{IsDistinct}
 use Rattle.tree_model.specs.Signatures.{Signature}
 use Rattle.tree_model.specs.Valuations.{Valuation}
@@ -7,9 +7,10 @@ use Rattle.flat_form.specs.declared.atom.Flat.{Flat}
 use Rattle.flat_form.specs.declared.cube.Cube.{Cube}
 use Rattle.flat_form.specs.Fitting.{BasicFits, NormFits}
 use Rattle.flat_form.specs.Meanings.{BasicHolds, SomeHolds}
-use Rattle.flat_form.specs.Normals.{norm}
+use Rattle.flat_form.specs.Normals.{norm, none}
 use Rattle.flat_form.specs.Numbering.{CubesOver}
 use Rattle.flat_form.specs.Reduced.{IsReduced}
+use Rattle.step_facts.specs.Lists.{IsPlain}
 use Rattle.node_facts.specs.Branches.{Branch, Branches, branch, no_branch, one_more, norm_in, norms_in, BranchHolds, BranchFits}
 use Rattle.node_facts.specs.Nested.{HoldsWith, IsNested}
 
@@ -18,6 +19,17 @@ abbrev pub AgreesAt : ℕ → List Flat → Branch → Branch → Type 0
 AgreesAt m under x y =
     (σ : Signature) (e : Valuation σ) → BranchFits σ x → BranchFits σ y → BasicFits σ under → BasicHolds e under
     → BranchHolds m e x ↔ BranchHolds m e y
+
+-- the list of a branch that does not wait: the one that it has, or the plain list where it has none and no parts
+abbrev pub HasList : ℕ → Branch → List Cube → Type 0
+HasList n (branch bound basic parts (Some list)) out = out ≡ list
+HasList n (branch bound basic no_branch None) out = IsPlain n (norm bound basic none) out
+HasList n (branch bound basic (one_more part rest) None) out = ⊥
+
+-- those of several branches, in order
+abbrev pub HaveLists : ℕ → Branches → List (List Cube) → Type 0
+HaveLists n no_branch lists = lists ≡ []
+HaveLists n (one_more part rest) lists = (list : List Cube) × (more : List (List Cube)) × HasList n part list × HaveLists n rest more × (lists ≡ list ∷ more)
 
 -- What the list is that a turn gives a branch over m variables, under the atoms round it. The symbols fit a signature,
 -- where one is named.

@@ -6,7 +6,7 @@ use Rattle.tree_model.specs.Valuations.{Valuation}
 use Rattle.flat_form.specs.declared.atom.Flat.{Flat}
 use Rattle.flat_form.specs.declared.cube.Cube.{Cube}
 use Rattle.flat_form.specs.Fitting.{BasicFits}
-use Rattle.flat_form.specs.Meanings.{Extends, BasicHolds, SomeHolds, NormHolds}
+use Rattle.flat_form.specs.Meanings.{Extends, BasicHolds, SomeHolds}
 use Rattle.flat_form.specs.Normals.{Norm, Norms, norm, none, also}
 use Rattle.flat_form.specs.Numbering.{BasicOver, CubesOver}
 use Rattle.flat_form.specs.Symbols.{CubesFit}
@@ -43,11 +43,14 @@ abbrev mutual
 abbrev pub with_list : List Cube → Branch → Branch
 with_list list (branch bound basic parts other) = branch bound basic parts (Some list)
 
+abbrev pub has_parts : Branches → Bool
+has_parts no_branch = false
+has_parts (one_more part rest) = true
+
 -- a branch waits while it has parts and no list
 abbrev pub is_waiting : Branch → Bool
-is_waiting (branch bound basic no_branch list) = false
-is_waiting (branch bound basic (one_more part rest) None) = true
-is_waiting (branch bound basic (one_more part rest) (Some list)) = false
+is_waiting (branch bound basic parts None) = has_parts parts
+is_waiting (branch bound basic parts (Some list)) = false
 
 abbrev pub none_waits : Branches → Bool
 none_waits no_branch = true
@@ -79,7 +82,7 @@ abbrev mutual
   -- how many of a negated conjunction, its parts, their parts, and so on, have parts
   pub with_parts : Norm → ℕ
   with_parts (norm bound basic none) = 0
-  with_parts (norm bound basic (also part rest)) = 1 + all_with_parts (also part rest)
+  with_parts (norm bound basic (also part rest)) = 1 + (with_parts part + all_with_parts rest)
 
   pub all_with_parts : Norms → ℕ
   all_with_parts none = 0
@@ -96,14 +99,12 @@ abbrev mutual
   all_ready_places at (one_more part rest) = ready_places at part ++ all_ready_places (at + size part) rest
 
 abbrev mutual
-  -- Over n variables: a branch without parts means what its negated conjunction does. One with parts and a list means
-  -- that some cube of the list holds. One that waits means that no values of its bound variables make its atoms and each
-  -- part hold.
+  -- Over n variables: a branch with a list means that some cube of the list holds. Without one it means that no values of
+  -- its bound variables make its atoms and each part hold.
   pub BranchHolds : {σ : Signature} → ℕ → Valuation σ → Branch → Type 0
-  BranchHolds n e (branch bound basic no_branch list) = NormHolds n e (norm bound basic none)
-  BranchHolds n e (branch bound basic (one_more part rest) (Some list)) = SomeHolds e list
-  BranchHolds n e (branch bound basic (one_more part rest) None) =
-      (d : Valuation _) → Extends n e d → BasicHolds d basic → ¬ BranchesHold (n + bound) d (one_more part rest)
+  BranchHolds n e (branch bound basic parts (Some list)) = SomeHolds e list
+  BranchHolds n e (branch bound basic parts None) =
+      (d : Valuation _) → Extends n e d → BasicHolds d basic → ¬ BranchesHold (n + bound) d parts
 
   pub BranchesHold : {σ : Signature} → ℕ → Valuation σ → Branches → Type 0
   BranchesHold n e no_branch = Unit {0}

@@ -3,4 +3,5 @@ pub mod Branches
 pub mod KeepLaws
 pub mod Nested
 pub mod NestedLaws
+pub mod PlaceLaws
 pub mod Places

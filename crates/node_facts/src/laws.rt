@@ -1,6 +1,7 @@
 //! Laws of nested lists and of trees of branches, each a clause of a function that does nothing.
 ghost use Rattle.node_facts.specs.KeepLaws.{BesideMeans, KeepsMeans, KeepsTogether, KeepsShape, KeepsIsOne, KeepsAll, KeepsNone};
 ghost use Rattle.node_facts.specs.NestedLaws.{NestedMeans, NestedShape, NestedIsOne};
+ghost use Rattle.node_facts.specs.PlaceLaws.{PlacesHave, ChangedKeepsWhole, ListedIsSameNorm, HeldStays, HeldFits};
 
 /// What is kept of a list of cubes beside atoms.
 pub fn keep_laws()
@@ -18,4 +19,13 @@ pub fn nested_laws()
     ensures means { NestedMeans }
     ensures shape { NestedShape }
     ensures one { NestedIsOne }
+{}
+
+/// What is had at the places of a tree of branches, and what a change at one place keeps.
+pub fn place_laws()
+    ensures have { PlacesHave }
+    ensures whole { ChangedKeepsWhole }
+    ensures norm { ListedIsSameNorm }
+    ensures stays { HeldStays }
+    ensures fit { HeldFits }
 {}

@@ -5,4 +5,5 @@ use std::test::*;
 fn laws_can_be_called(_rt: HostRuntime) {
     keep_laws();
     nested_laws();
+    place_laws();
 }
