@@ -1,6 +1,7 @@
 -- What is had at places, and what a change at one place keeps.
 use Rattle.std.proofs.Common.{ℕ, ◌≡◌, ◌+◌, List, ◌++◌, Option, Some, None, refl, sym, ap, subst}
 use Rattle.std.proofs.lemmas.List.Elements.{All-append}
+use Rattle.lists.specs.Distinct.{IsDistinct}
 use Rattle.tree_model.specs.Signatures.{Signature}
 use Rattle.tree_model.specs.Valuations.{Valuation}
 use Rattle.flat_form.specs.declared.atom.Flat.{Flat}
@@ -8,13 +9,13 @@ use Rattle.flat_form.specs.declared.cube.Cube.{Cube}
 use Rattle.flat_form.specs.Fitting.{AtomFits, BasicFits, NormFits, NormsFit}
 use Rattle.flat_form.specs.Meanings.{Extends, BasicHolds}
 use Rattle.flat_form.specs.Normals.{Norm, Norms, norm, also}
-use Rattle.flat_form.specs.Numbering.{BasicOver}
+use Rattle.flat_form.specs.Numbering.{BasicOver, CubesOver}
 use Rattle.flat_facts.proofs.Lists.{both_hold}
 use Rattle.node_facts.specs.Branches.{Branch, Branches, branch, no_branch, one_more, norm_in, norms_in, with_list, BranchesHold, BranchOver, BranchesOver, BranchFits, BranchesFit}
 use Rattle.node_facts.specs.Places.{At}
 use Rattle.node_facts.specs.Agreement.{AgreesAt, IsHeld, AllHeld}
 use Rattle.node_facts.specs.Nested.{IsNested}
-use Rattle.node_facts.specs.PlaceLaws.{PlacesHave, ChangedKeepsWhole, ListedIsSameNorm, HeldStays}
+use Rattle.node_facts.specs.PlaceLaws.{PlacesHave, ChangedKeepsWhole, ListedIsSameNorm, ListedIsOver, HeldStays}
 use Rattle.node_facts.proofs.At.{at_has, changed_has}
 use Rattle.node_facts.proofs.Beside.{holds_on}
 use Rattle.node_facts.proofs.Nested.{nested_fits, round_and_own}
@@ -67,36 +68,36 @@ places_have = record { over = over_at; fit = fits_at; norm_fits = norm_fits_at; 
 
 -- the whole means the same
 
-abbrev Agree : ℕ → List Flat → Branch → Branch → Type 0
-Agree n round x y = BranchOver n x → BasicOver n round → AgreesAt n round x y
+abbrev Agree : Signature → ℕ → List Flat → Branch → Branch → Type 0
+Agree σ n round x y = BranchOver n x → BasicOver n round → AgreesAt σ n round x y
 
-abbrev AllAgree : ℕ → List Flat → Branches → Branches → Type 0
-AllAgree n round xs ys =
-    BranchesOver n xs → BasicOver n round → (σ : Signature) (e : Valuation σ) → BranchesFit σ xs → BranchesFit σ ys → BasicFits σ round
+abbrev AllAgree : Signature → ℕ → List Flat → Branches → Branches → Type 0
+AllAgree σ n round xs ys =
+    BranchesOver n xs → BasicOver n round → (e : Valuation σ) → BranchesFit σ xs → BranchesFit σ ys → BasicFits σ round
     → BasicHolds e round → (BranchesHold n e xs → BranchesHold n e ys) × (BranchesHold n e ys → BranchesHold n e xs)
 
-agree_up : (n : ℕ) (round : List Flat) (bound : ℕ) (basic : List Flat) (old new : Branches) (list : Option (List Cube))
-    → AllAgree (n + bound) (round ++ basic) old new → Agree n round (branch bound basic old list) (branch bound basic new list)
-agree_up n round bound basic old new (Some list) agree over at_round σ e f g r holds = ((λ some. some), (λ some. some))
-agree_up n round bound basic old new None agree over at_round σ e f g r holds =
+agree_up : (σ : Signature) (n : ℕ) (round : List Flat) (bound : ℕ) (basic : List Flat) (old new : Branches) (list : Option (List Cube))
+    → AllAgree σ (n + bound) (round ++ basic) old new → Agree σ n round (branch bound basic old list) (branch bound basic new list)
+agree_up σ n round bound basic old new (Some list) agree over at_round e f g r holds = ((λ some. some), (λ some. some))
+agree_up σ n round bound basic old new None agree over at_round e f g r holds =
     let inside = λ (d : Valuation σ) (like : Extends n e d) (h : BasicHolds d basic).
-    agree over.1 (round_and_own n bound round basic at_round over.0) σ d f.1 g.1 (All-append (AtomFits σ) round basic r f.0)
+    agree over.1 (round_and_own n bound round basic at_round over.0) d f.1 g.1 (All-append (AtomFits σ) round basic r f.0)
     (both_hold d round basic (holds_on n round e d at_round like holds) h) in (
       (λ never d like h each. never d like h ((inside d like h).1 each)),
       (λ never d like h each. never d like h ((inside d like h).0 each)),
     )
 
-agree_head : (n : ℕ) (round : List Flat) (old new : Branch) (rest : Branches) → Agree n round old new → AllAgree n round (one_more old rest) (one_more new rest)
-agree_head n round old new rest agree over at_round σ e f g r holds =
-    let one = agree over.0 at_round σ e f.0 g.0 r holds in ((λ each. (one.0 each.0, each.1)), (λ each. (one.1 each.0, each.1)))
+agree_head : (σ : Signature) (n : ℕ) (round : List Flat) (old new : Branch) (rest : Branches) → Agree σ n round old new → AllAgree σ n round (one_more old rest) (one_more new rest)
+agree_head σ n round old new rest agree over at_round e f g r holds =
+    let one = agree over.0 at_round e f.0 g.0 r holds in ((λ each. (one.0 each.0, each.1)), (λ each. (one.1 each.0, each.1)))
 
-agree_tail : (n : ℕ) (round : List Flat) (part : Branch) (old new : Branches) → AllAgree n round old new → AllAgree n round (one_more part old) (one_more part new)
-agree_tail n round part old new agree over at_round σ e f g r holds =
-    let others = agree over.1 at_round σ e f.1 g.1 r holds in ((λ each. (each.0, others.0 each.1)), (λ each. (each.0, others.1 each.1)))
+agree_tail : (σ : Signature) (n : ℕ) (round : List Flat) (part : Branch) (old new : Branches) → AllAgree σ n round old new → AllAgree σ n round (one_more part old) (one_more part new)
+agree_tail σ n round part old new agree over at_round e f g r holds =
+    let others = agree over.1 at_round e f.1 g.1 r holds in ((λ each. (each.0, others.0 each.1)), (λ each. (each.0, others.1 each.1)))
 
 pub changed_keeps_whole : ChangedKeepsWhole
-changed_keeps_whole f n i m round under root x at over at_round agrees =
-    changed_has f Agree AllAgree agree_up agree_head agree_tail n i m round under root x at (λ o r. agrees) over at_round
+changed_keeps_whole f σ n i m round under root x at over at_round agrees =
+    changed_has f (Agree σ) (AllAgree σ) (agree_up σ) (agree_head σ) (agree_tail σ) n i m round under root x at (λ o r. agrees) over at_round
 
 -- the negated conjunction is the same
 
@@ -114,6 +115,23 @@ listed_is_same_norm n i m round under root x list at = changed_has (with_list li
     (λ n round bound basic old new option same. ap (λ (z : Norms). norm bound basic z) same)
     (λ n round old new rest same. ap (λ (z : Norm). also z (norms_in rest)) same)
     (λ n round part old new same. ap (λ (z : Norms). also (norm_in part) z) same) n i m round under root x at (list_norm list x)
+
+-- the branch is well numbered again
+
+abbrev OverToo : ℕ → List Flat → Branch → Branch → Type 0
+OverToo n round x y = BranchOver n x → BranchOver n y
+
+abbrev AllOverToo : ℕ → List Flat → Branches → Branches → Type 0
+AllOverToo n round xs ys = BranchesOver n xs → BranchesOver n ys
+
+list_over : (n : ℕ) (list : List Cube) (x : Branch) → CubesOver n list → IsDistinct list → BranchOver n x → BranchOver n (with_list list x)
+list_over n list (branch bound basic parts other) cubes distinct over = (over.0, over.1, (cubes, distinct))
+
+pub listed_is_over : ListedIsOver
+listed_is_over n i m round under root x list at cubes distinct = changed_has (with_list list) OverToo AllOverToo
+    (λ n round bound basic old new option too over. (over.0, too over.1, over.2))
+    (λ n round old new rest too over. (too over.0, over.1))
+    (λ n round part old new too over. (over.0, too over.1)) n i m round under root x at (list_over m list x cubes distinct)
 
 -- all lists are held again
 

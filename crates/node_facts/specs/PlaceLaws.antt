@@ -1,10 +1,11 @@
 -- Laws of places: what is said of a branch is said of each in it, and what changes at one place.
 use Rattle.std.specs.Prelude.{◌≡◌, ℕ, List}
+use Rattle.lists.specs.Distinct.{IsDistinct}
 use Rattle.tree_model.specs.Signatures.{Signature}
 use Rattle.flat_form.specs.declared.atom.Flat.{Flat}
 use Rattle.flat_form.specs.declared.cube.Cube.{Cube}
 use Rattle.flat_form.specs.Fitting.{BasicFits, NormFits}
-use Rattle.flat_form.specs.Numbering.{BasicOver}
+use Rattle.flat_form.specs.Numbering.{BasicOver, CubesOver}
 use Rattle.node_facts.specs.Branches.{Branch, norm_in, BranchOver, BranchFits}
 use Rattle.node_facts.specs.Places.{At, changed, listed}
 use Rattle.node_facts.specs.Agreement.{AgreesAt, IsHeld}
@@ -24,13 +25,19 @@ pub record PlacesHave : Type 0 where
 -- root no atoms stand round, so it does under each valuation.
 abbrev pub ChangedKeepsWhole : Type 0
 ChangedKeepsWhole =
-    (f : Branch → Branch) (n i m : ℕ) (round under : List Flat) (root x : Branch) → At n round root i m under x → BranchOver n root → BasicOver n round
-    → AgreesAt m under x (f x) → AgreesAt n round root (changed f i root)
+    (f : Branch → Branch) (σ : Signature) (n i m : ℕ) (round under : List Flat) (root x : Branch) → At n round root i m under x → BranchOver n root
+    → BasicOver n round → AgreesAt σ m under x (f x) → AgreesAt σ n round root (changed f i root)
 
 -- a list that is put at a place changes no negated conjunction
 abbrev pub ListedIsSameNorm : Type 0
 ListedIsSameNorm =
     (n i m : ℕ) (round under : List Flat) (root x : Branch) (list : List Cube) → At n round root i m under x → norm_in (listed i list root) ≡ norm_in root
+
+-- where it is well numbered and distinct, the branch is well numbered again
+abbrev pub ListedIsOver : Type 0
+ListedIsOver =
+    (n i m : ℕ) (round under : List Flat) (root x : Branch) (list : List Cube) → At n round root i m under x → CubesOver m list → IsDistinct list
+    → BranchOver n root → BranchOver n (listed i list root)
 
 -- where it is the nested list, all lists are held again
 abbrev pub HeldStays : Type 0

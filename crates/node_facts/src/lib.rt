@@ -3,7 +3,7 @@
 
 mod laws;
 
-pub use laws::{keep_laws, nested_laws, place_laws};
+pub use laws::{count_laws, keep_laws, nested_laws, place_laws, turn_laws};
 
 #[cfg(test)]
 mod tests;

@@ -6,4 +6,6 @@ fn laws_can_be_called(_rt: HostRuntime) {
     keep_laws();
     nested_laws();
     place_laws();
+    turn_laws();
+    count_laws();
 }
