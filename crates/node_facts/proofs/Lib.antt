@@ -1,0 +1,11 @@
+pub mod At
+pub mod Beside
+pub mod ClosedUnder
+pub mod Counts
+pub mod First
+pub mod Fitting
+pub mod Kept
+pub mod Nested
+pub mod Places
+pub mod Turns
+pub mod Unturned

@@ -1,0 +1,9 @@
+pub mod Agreement
+pub mod Branches
+pub mod CountLaws
+pub mod KeepLaws
+pub mod Nested
+pub mod NestedLaws
+pub mod PlaceLaws
+pub mod Places
+pub mod TurnLaws
