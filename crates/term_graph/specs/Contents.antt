@@ -1,5 +1,6 @@
 -- What a graph holds now, and what it held at each earlier length of its trail.
-use Rattle.std.specs.Prelude.{◌≡◌, ℕ, zero, suc, ◌<◌, ◌≤◌, Bool, true, false, List, [], ◌∷◌, ◌++◌, length, map, take, slice_index_or, slice_set, Option, Some, None, if◌then◌else◌, cond, nat_eq, ◌⊎◌}
+use Rattle.std.specs.Prelude.{◌≡◌, ◌≢◌, ℕ, zero, suc, ◌<◌, ◌≤◌, Bool, true, false, List, [], ◌∷◌, ◌++◌, length, map, take, slice_index_or, slice_set, Option, Some, None, All, Contains, ◌↔◌, if◌then◌else◌, cond, nat_eq, ◌||◌, ◌⊎◌}
+use Rattle.lists.specs.Distinct.{IsDistinct}
 use Rattle.tree_model.specs.declared.tree.Symbol.{Symbol}
 use Rattle.tree_model.specs.declared.tree.Symbol.TheVariants as symbols
 use Rattle.term_graph.specs.declared.bound.Bound.{Bound}
@@ -83,6 +84,20 @@ pub record IsForest (bindings : List Bound) : Type 0 where
   pub within : (v w : ℕ) → target_of bindings v ≡ Some w → w < length bindings
   pub ends : (v : ℕ) → target_of bindings (root bindings v) ≡ None
 
+abbrev pub no_term : Made
+no_term = record { symbol = symbols.Named 0; args = [] }
+
+abbrev pub term_at : List Made → ℕ → Made
+term_at terms t = slice_index_or terms t no_term
+
+-- numbers of variables and terms are of those there are, terms have at most eight arguments, and bindings end
+pub record IsWellFormed (c : Contents) : Type 0 where
+  pub forest : IsForest c.bindings
+  pub sizes : length c.marks ≡ length c.bindings
+  pub bound_terms : (v t : ℕ) → binding_of c.bindings v ≡ Term t → t < length c.terms
+  pub arguments : (t : ℕ) → t < length c.terms → All (λ x. x < length c.bindings) (term_at c.terms t).args
+  pub few : (t : ℕ) → t < length c.terms → length (term_at c.terms t).args ≤ 8
+
 -- f at each number below n
 abbrev pub each : {X : Type 0} → ℕ → (ℕ → X) → List X
 each zero f = []
@@ -90,12 +105,6 @@ each (suc n) f = each n f ++ f n ∷ []
 
 abbrev pub uses_at : Contents → ℕ → List ℕ
 uses_at c u = slice_index_or c.uses u []
-
-abbrev pub no_term : Made
-no_term = record { symbol = symbols.Named 0; args = [] }
-
-abbrev pub term_at : List Made → ℕ → Made
-term_at terms t = slice_index_or terms t no_term
 
 -- the term has this symbol, and these are the roots of its arguments
 pub record HasKey (bindings : List Bound) (terms : List Made) (symbol : Symbol) (keys : List ℕ) (t : ℕ) : Type 0 where
@@ -107,6 +116,11 @@ pub record HasKey (bindings : List Bound) (terms : List Made) (symbol : Symbol) 
 abbrev pub IsLeader : List Bound → List Made → Symbol → List ℕ → Option ℕ → Type 0
 IsLeader bindings terms symbol keys None = (t : ℕ) → ¬ HasKey bindings terms symbol keys t
 IsLeader bindings terms symbol keys (Some m) = HasKey bindings terms symbol keys m × ((t : ℕ) → HasKey bindings terms symbol keys t → m ≤ t)
+
+-- the terms that mention a variable with this root, each once
+pub record AreUsers (bindings : List Bound) (terms : List Made) (r : ℕ) (list : List ℕ) : Type 0 where
+  pub distinct : IsDistinct list
+  pub each : (t : ℕ) → Contains list t ↔ ((t < length terms) × Contains (map (root bindings) (term_at terms t).args) r)
 
 abbrev pub with_variable : Contents → Contents
 with_variable c = record { bindings = c.bindings ++ Free ∷ []; marks = c.marks ++ false ∷ []; terms = c.terms; uses = c.uses ++ [] ∷ [] }
@@ -134,10 +148,31 @@ IsInterned old new symbol keys t =
     (IsLeader old.contents.bindings old.contents.terms symbol keys (Some t) × (new ≡ old))
     ⊎ (IsLeader old.contents.bindings old.contents.terms symbol keys None × (t ≡ length old.contents.terms) × (new ≡ grown Interns (with_term symbol keys old.contents) old))
 
--- v is bound to the term
-abbrev pub bound_to_term : ℕ → ℕ → Contents → Contents
-bound_to_term v t c = record { bindings = slice_set c.bindings v (Term t); marks = c.marks; terms = c.terms; uses = c.uses }
-
 -- v is marked: nothing is done where it was
 abbrev pub marked : ℕ → History → History
 marked v h = if slice_index_or h.contents.marks v false then h else grown (MarkedAt v) (with_mark v h.contents) h
+
+-- the uses of v and w are joined, for each variable that has one of them as its root
+unfoldable pub joined_uses : ℕ → ℕ → Contents → List (List ℕ)
+joined_uses v w c = each (length c.bindings) (λ u. cond (nat_eq (root c.bindings u) v || nat_eq (root c.bindings u) w) (uses_at c v ++ uses_at c w) (uses_at c u))
+
+abbrev pub uses_then : ℕ → Bound → Contents → List (List ℕ)
+uses_then v Free c = c.uses
+uses_then v (Variable x) c = joined_uses v (root c.bindings x) c
+uses_then v (Term t) c = c.uses
+
+-- v is bound, and its uses are joined to those of the root of a variable
+abbrev pub with_binding : ℕ → Bound → Contents → Contents
+with_binding v to c = record { bindings = slice_set c.bindings v to; marks = c.marks; terms = c.terms; uses = uses_then v to c }
+
+-- a root v may be bound to a variable with another root, or to its first term
+abbrev pub MayBind : Contents → ℕ → Bound → Type 0
+MayBind c v Free = ⊥
+MayBind c v (Variable x) = (x < length c.bindings) × (root c.bindings x ≢ v)
+MayBind c v (Term t) = (t < length c.terms) × (binding_of c.bindings v ≡ Free)
+
+-- where a root leads after v is bound
+abbrev pub root_then : List Bound → ℕ → Bound → ℕ → ℕ
+root_then bindings v Free r = r
+root_then bindings v (Variable x) r = cond (nat_eq r v) (root bindings x) r
+root_then bindings v (Term t) r = r

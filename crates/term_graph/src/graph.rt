@@ -1,5 +1,5 @@
 //! The graph: its contents now, and the moments of its trail.
-ghost use Rattle.std.specs.Prelude.{All, map, ◌≡◌, ◌≢◌, ◌<◌, ◌≤◌, None, [], ◌∷◌, ◌++◌, length, IfOk, OnOk, OnErr, slice_index_or, false};
+ghost use Rattle.std.specs.Prelude.{All, ℕ, map, ◌≡◌, ◌≢◌, ◌<◌, ◌≤◌, None, [], ◌∷◌, ◌++◌, length, IfOk, OnOk, OnErr, slice_index_or, false};
 
 use crate::Bound;
 use crate::change::Change;
@@ -10,7 +10,7 @@ use indexmap::IndexMap;
 use lists::NoMemory;
 use std::alloc::Global;
 use std::marker::Model;
-use tree_model::Symbol;
+use tree_model::{Places, Symbol};
 
 /// A length of the trail.
 #[derive(Clone, Copy)]
@@ -41,7 +41,7 @@ impl Model for Graph {
 }
 
 impl Graph {
-    ghost use Rattle.term_graph.specs.Contents.{empty, grown, with_variable, marked, back_to, IsGrown, root, binding_of, Leads, IsInterned, IsLeader, term_at, bound_to_term};
+    ghost use Rattle.term_graph.specs.Contents.{empty, grown, with_variable, marked, back_to, IsGrown, root, binding_of, Leads, IsInterned, IsLeader, term_at, with_binding, root_then, MayBind, target_of, AreUsers, IsWellFormed};
     ghost use Rattle.term_graph.specs.Contents.Step.{Grew, BoundAt};
 
     /// No variable and no term. It takes no memory.
@@ -101,12 +101,40 @@ impl Graph {
         parts::shared(self.alloc, &self.parts, symbol, args)
     }
 
-    /// Binds a free variable to a term.
-    pub fn bind_term(&mut self, v: usize, t: usize) -> Result<(), NoMemory>
+    /// Binds a root: to a variable with another root, which joins their uses, or to its first term.
+    pub fn bind(&mut self, v: usize, to: Bound) -> Result<(), NoMemory>
+        requires within { v < length self.old.contents.bindings }
+        requires root { target_of self.old.contents.bindings v ≡ None }
+        requires to { MayBind self.old.contents v to }
+        ensures ok { OnOk result (self.new ≡ grown (BoundAt v) (with_binding v to self.old.contents) self.old) }
+        ensures roots { OnOk result ((u : ℕ) → root self.new.contents.bindings u ≡ root_then self.old.contents.bindings v to (root self.old.contents.bindings u)) }
+        ensures err { OnErr result (self.new ≡ self.old) }
+    {
+        self.well_formed();
+        match to {
+            Bound::Free => unreachable!(),
+            Bound::Variable(x) => self.bind_variable(v, x),
+            Bound::Term(t) => self.bind_term(v, t),
+        }
+    }
+
+    fn bind_variable(&mut self, v: usize, to: usize) -> Result<(), NoMemory>
+        requires v_in { v < length self.old.contents.bindings }
+        requires open { target_of self.old.contents.bindings v ≡ None }
+        requires to_in { to < length self.old.contents.bindings }
+        requires apart { root self.old.contents.bindings to ≢ v }
+        ensures ok { OnOk result (self.new ≡ grown (BoundAt v) (with_binding v (Bound.Variable to) self.old.contents) self.old) }
+        ensures err { OnErr result (self.new ≡ self.old) }
+    {
+        let root = self.deref(to);
+        parts::join(self.alloc, &mut self.parts, &mut self.trail, v, to, root)
+    }
+
+    fn bind_term(&mut self, v: usize, t: usize) -> Result<(), NoMemory>
         requires v_in { v < length self.old.contents.bindings }
         requires free { binding_of self.old.contents.bindings v ≡ Bound.Free }
         requires t_in { t < length self.old.contents.terms }
-        ensures ok { OnOk result (self.new ≡ grown (BoundAt v) (bound_to_term v t self.old.contents) self.old) }
+        ensures ok { OnOk result (self.new ≡ grown (BoundAt v) (with_binding v (Bound.Term t) self.old.contents) self.old) }
         ensures err { OnErr result (self.new ≡ self.old) }
     {
         parts::bind_term(&mut self.parts, &mut self.trail, v, t)
@@ -122,6 +150,15 @@ impl Graph {
         root_of(&self.parts.slots, v)
     }
 
+    /// The terms that mention a variable with the root of v, each once.
+    pub fn users(&self, alloc: Global, v: usize) -> Result<Places, NoMemory>
+        requires { v < length self.now.contents.bindings }
+        ensures { IfOk result (AreUsers self.now.contents.bindings self.now.contents.terms (root self.now.contents.bindings v)) }
+    {
+        let root = self.deref(v);
+        parts::users(alloc, &self.parts, root)
+    }
+
     /// How many variables there are. It takes no memory.
     pub fn variables(&self) -> usize
         ensures { result ≡ length self.now.contents.bindings }
@@ -134,6 +171,13 @@ impl Graph {
         ensures { result ≡ length self.now.contents.terms }
     {
         self.parts.terms.len()
+    }
+
+    /// The numbers in it are of variables and terms that there are. It takes no memory.
+    pub fn well_formed(&self)
+        ensures { IsWellFormed self.now.contents }
+    {
+        let _variables = self.parts.slots.len();
     }
 
     /// What the variable is bound to. It takes no memory.
