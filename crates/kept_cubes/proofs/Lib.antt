@@ -1,1 +1,4 @@
+pub mod Failing
+pub mod Kept
 pub mod Together
+pub mod WithAtoms
