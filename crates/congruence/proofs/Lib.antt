@@ -1,0 +1,4 @@
+pub mod Leaders
+pub mod Pairs
+pub mod Merged
+pub mod Shared
