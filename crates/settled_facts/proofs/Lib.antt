@@ -1,0 +1,6 @@
+pub mod Closing
+pub mod FormSettled
+pub mod Forms
+pub mod ReadOff
+pub mod Solvable
+pub mod Terms

@@ -1,0 +1,10 @@
+//! Laws of the contents of a graph that settle a conjunction: what is read off them, what is added to them, and how they
+//! are made so.
+#![tactic(auto)]
+
+mod laws;
+
+pub use laws::form_laws;
+
+#[cfg(test)]
+mod tests;
