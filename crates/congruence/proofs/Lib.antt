@@ -1,4 +1,4 @@
 pub mod Leaders
-pub mod Pairs
 pub mod Merged
+pub mod Pairs
 pub mod Shared

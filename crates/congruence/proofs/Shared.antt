@@ -7,7 +7,8 @@ use Rattle.tree_model.specs.declared.tree.Symbol.{Symbol}
 use Rattle.tree_facts.proofs.Members.{contains_first, contains_later, contains_cases}
 use Rattle.flat_form.specs.declared.atom.Flat.{Flat}
 use Rattle.term_graph.specs.Contents.{Contents, term_at, HasKey, IsLeader, root}
-use Rattle.congruence.specs.Agenda.{name, owner, Agenda, Joins, named, back, through, IsUnderway}
+use Rattle.settled_facts.specs.Settled.{name}
+use Rattle.congruence.specs.Agenda.{owner, Agenda, Joins, named, back, through, AreAlike, IsComplete}
 use Rattle.congruence.specs.Merges.{redirected, Leads, IsMerged, IsNoted}
 use Rattle.congruence.proofs.Leaders.{leader_exists}
 
@@ -42,7 +43,7 @@ module _ (v w : ℕ) (old new : Contents) (merged : IsMerged v w old new) where
   abbrev sign : ℕ → Symbol
   sign t = (term_at old.terms t).symbol
 
-  new_names : (xs : List ℕ) → map (name new) xs ≡ map (redirected v w) (map (name old) xs)
+  pub new_names : (xs : List ℕ) → map (name new) xs ≡ map (redirected v w) (map (name old) xs)
   new_names [] = refl
   new_names (x ∷ xs) = ap (λ z. z ∷ map (name new) xs) (merged.names x) ∙ ap (λ zs. redirected v w (name old x) ∷ zs) (new_names xs)
 
@@ -61,11 +62,11 @@ module _ (v w : ℕ) (old new : Contents) (merged : IsMerged v w old new) where
   leads_now t m is = subst (λ z. IsLeader new.bindings z (term_at z t).symbol (map (name new) (term_at z t).args) (Some m)) (sym merged.terms) is
 
   module _ (owners : List ℕ) (before after : Agenda) (atoms : List Flat) (lifted : (x y : ℕ) → Joins old owners before x y → Joins new owners after x y)
-      (noted : IsNoted v w old new owners before after) (is : IsUnderway old owners before atoms) where
+      (noted : IsNoted new owners after v w old) (is : IsComplete old owners before atoms) where
     -- from the leader of a key before to the leader of what the key is now
     led_on : (l m : ℕ) → Leads old l l → l < length old.terms → Foremost (sign l) (key new l) m → Joins new owners after (owner owners l) (owner owners m)
     led_on l m leads within foremost = elim (contained_or_not v (key old l)) [
-      | inl mentions ↦ noted.led l m within mentions leads (leads_now l m foremost)
+      | inl mentions ↦ noted.led l m (within, mentions, leads) (leads_now l m foremost)
       | inr none ↦
         let same : key new l ≡ key old l = key_kept l none in
         let same_sign : sign m ≡ sign l = foremost.0.sign in
@@ -81,7 +82,7 @@ module _ (v w : ℕ) (old new : Contents) (merged : IsMerged v w old new) where
           let asked : map (redirected v w) (key old m) ≡ key old l = sym (new_names (term_at old.terms m).args) ∙ same_key ∙ same in
           let was : IsLeader old.bindings old.terms (sign m) (map (redirected v w) (key old m)) (Some l) =
               subst (λ s. IsLeader old.bindings old.terms s (map (redirected v w) (key old m)) (Some l)) (sym same_sign) (subst (λ ks. IsLeader old.bindings old.terms (sign l) ks (Some l)) (sym asked) leads) in
-          noted.taken m l foremost.0.within mentions own (leads_now m m first) was
+          noted.taken m l (foremost.0.within, mentions, own) (leads_now m m first) was
         | inr free ↦
           let stays : key old m ≡ key old l = sym (key_kept m free) ∙ same_key ∙ same in
           let low : l ≤ m = leads.1 m (record { within = foremost.0.within; sign = same_sign; args = stays }) in
@@ -98,15 +99,14 @@ module _ (v w : ℕ) (old new : Contents) (merged : IsMerged v w old new) where
         let own : Leads old l l = subst (λ s. IsLeader old.bindings old.terms s (key old l) (Some l)) (sym leads.0.sign)
             (subst (λ ks. IsLeader old.bindings old.terms (sign t) ks (Some l)) (sym leads.0.args) leads) in
         let first : Foremost (sign l) (key new l) m = subst (λ s. Foremost s (key new l) m) (sym leads.0.sign) (subst (λ ks. Foremost (sign t) ks m) (sym same_key) foremost) in
-        through (lifted (owner owners t) (owner owners l) (is.shared t l within leads.0.within (sym leads.0.sign) (sym leads.0.args))) (led_on l m own leads.0.within first)
+        through (lifted (owner owners t) (owner owners l) (is.shared t l (record { left = within; right = leads.0.within; sign = sym leads.0.sign; args = sym leads.0.args }))) (led_on l m own leads.0.within first)
 
-    pub shared_merged : (t m : ℕ) → t < length new.terms → m < length new.terms → (term_at new.terms t).symbol ≡ (term_at new.terms m).symbol
-        → map (name new) (term_at new.terms t).args ≡ map (name new) (term_at new.terms m).args → Joins new owners after (owner owners t) (owner owners m)
-    shared_merged t m t_in m_in signs keys =
-        let t_old : t < length old.terms = subst (λ z. t < length z) merged.terms t_in in
-        let m_old : m < length old.terms = subst (λ z. m < length z) merged.terms m_in in
-        let signs_old : sign t ≡ sign m = subst (λ z. (term_at z t).symbol ≡ (term_at z m).symbol) merged.terms signs in
-        let keys_old : key new t ≡ key new m = subst (λ z. map (name new) (term_at z t).args ≡ map (name new) (term_at z m).args) merged.terms keys in
+    pub shared_merged : (t m : ℕ) → AreAlike new t m → Joins new owners after (owner owners t) (owner owners m)
+    shared_merged t m alike =
+        let t_old : t < length old.terms = subst (λ z. t < length z) merged.terms alike.left in
+        let m_old : m < length old.terms = subst (λ z. m < length z) merged.terms alike.right in
+        let signs : sign t ≡ sign m = subst (λ z. (term_at z t).symbol ≡ (term_at z m).symbol) merged.terms alike.sign in
+        let keys : key new t ≡ key new m = subst (λ z. map (name new) (term_at z t).args ≡ map (name new) (term_at z m).args) merged.terms alike.args in
         let (l, leads) = leader_exists new.bindings old.terms (sign t) (key new t) t (record { within = t_old; sign = refl; args = refl }) in
-        let other : Foremost (sign m) (key new m) l = subst (λ s. Foremost s (key new m) l) signs_old (subst (λ ks. Foremost (sign t) ks l) keys_old leads) in
+        let other : Foremost (sign m) (key new m) l = subst (λ s. Foremost s (key new m) l) signs (subst (λ ks. Foremost (sign t) ks l) keys leads) in
         through (joins_foremost t l t_old leads) (back (joins_foremost m l m_old other))

@@ -1,8 +1,10 @@
-// What a merge keeps.
-ghost use Rattle.congruence.specs.Merges.{MergeIsSound, MergeKeepsUnderway};
+//! Laws of what waits, each a clause of a function that does nothing.
+ghost use Rattle.congruence.specs.Merges.{MergeKeeps, AgendaMoves, AlikeIsSound};
 
+/// What a merge keeps.
 pub fn merge_laws()
-    ensures sound { MergeIsSound }
-    ensures underway { MergeKeepsUnderway }
+    ensures merge { MergeKeeps }
+    ensures moves { AgendaMoves }
+    ensures alike { AlikeIsSound }
 {
 }
