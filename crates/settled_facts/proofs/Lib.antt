@@ -1,3 +1,4 @@
+pub mod Changing
 pub mod Closing
 pub mod FormSettled
 pub mod Forms

@@ -3,5 +3,6 @@ use std::test::*;
 
 #[test]
 fn laws_can_be_called(_rt: HostRuntime) {
+    change_laws();
     form_laws();
 }
