@@ -104,6 +104,7 @@ module _ (f : Fields) (g : IsGood f) where
     mentioned = rw (heads-more, owners-more, ms-more) (mentioned_added heads owners f.terms ms g.mentioned (length f.cells) (length f.slots) m-is heads_in);
     shared = rw b-more (shared_added b f.terms f.entries g.ringed.forest (args_in f g) g.shared);
     bound = rw b-more bound-more;
+    few = g.few;
   }
 
   uses-kept : (u : ℕ) → u < length f.slots

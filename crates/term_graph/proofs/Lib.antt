@@ -1,5 +1,6 @@
 pub mod Adding
 pub mod Forests
+pub mod Forming
 pub mod Interning
 pub mod Keying
 pub mod Making

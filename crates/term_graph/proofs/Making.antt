@@ -1,10 +1,10 @@
 -- A term more: taken back, good still, and what is seen.
-use Rattle.std.proofs.Common.{ℕ, ◌≡◌, ◌<◌, ◌+◌, ◌-◌, true, false, List, [], ◌∷◌, ◌++◌, length, map, get_or, refl, sym, ap, ◌∙◌, subst, inl, inr, Some, None, arith, append_assoc, length-append}
+use Rattle.std.proofs.Common.{ℕ, ◌≡◌, ◌<◌, ◌≤◌, ◌+◌, ◌-◌, true, false, List, [], ◌∷◌, ◌++◌, length, map, get_or, refl, sym, ap, ◌∙◌, subst, inl, inr, Some, None, arith, append_assoc, length-append}
 use Rattle.std.specs.Prelude.{Option, nat_eq, reverse, Result, Ok, Err, IfOk, OnOk, OnErr, All}
 use Rattle.std.specs.List.{AllByRecursion}
 use Rattle.std.specs.Map.{lookup}
 use Rattle.std.proofs.lemmas.Bool.{cases_eq, eq-eqb, ne_eqb}
-use Rattle.std.proofs.lemmas.List.{length_push, length-map, map-append, get_or_push, append-nil}
+use Rattle.std.proofs.lemmas.List.{length_push, length-map, map-append, get_or_push, get_or_append_left, append-nil}
 use Rattle.std.proofs.lemmas.List.Elements.{recursion_from_All}
 use Rattle.lists.specs.declared.NoMemory.{NoMemory}
 use Rattle.index_lists.specs.Rings.{with_cell}
@@ -112,12 +112,19 @@ module _ (f : Fields) (g : IsGood f) where
         let n = cut_back (length f.slots) heads keys f.next g.ringed.inside (roots_in keys roots) in
         rw (count-made, t, e, c, n) refl
 
-    pub good-made : IsGood now
-    good-made = record {
+    few-made : length keys ≤ 8 → (t : ℕ) → t < length (f.terms ++ term ∷ []) → length (term_at (f.terms ++ term ∷ []) t).args ≤ 8
+    few-made n t l = elim (cases_eq t (length f.terms)) [
+      | inl i ↦ (let e = ap (λ x. length x.args) (get_or_push f.terms term no_term t (sym i)) in omega arith)
+      | inr d ↦ (let k : t < length f.terms = omega (arith, d, length_push f.terms term) in let e = ap (λ x. length x.args) (get_or_append_left f.terms (term ∷ []) no_term t k) in let w = g.few t k in omega arith)
+    ]
+
+    pub good-made : length keys ≤ 8 → IsGood now
+    good-made n = record {
       ringed = rw owners-made (ringed_mentions b heads keys owners f.next g.ringed roots);
       mentioned = rw (owners-made, mentions-made) (mentioned_made heads owners f.terms ms g.mentioned heads_in term);
       shared = shared_made b f.terms f.entries g.shared symbol keys roots key ks ka absent;
       bound = λ v t e. (let l = g.bound v t e in omega (arith, length_push f.terms term));
+      few = few-made n;
     }
 
     m-is : length ms ≡ length f.next
@@ -144,12 +151,12 @@ module _ (f : Fields) (g : IsGood f) where
 
 -- the call
 module _ (cs ds : List Change) (f f' : Fields) (symbol : Symbol) (keys : List ℕ) (t : ℕ) where
-  pub interned-good : AreRoots (bindings_of f.slots) keys → IsInternedIn f f' cs ds symbol keys t → AreGood (reverse cs) f → AreGood (reverse ds) f'
-  interned-good r (inl s) h = rw (s.1, s.2) h
-  interned-good r (inr s) h =
+  pub interned-good : AreRoots (bindings_of f.slots) keys → length keys ≤ 8 → IsInternedIn f f' cs ds symbol keys t → AreGood (reverse cs) f → AreGood (reverse ds) f'
+  interned-good r n (inl s) h = rw (s.1, s.2) h
+  interned-good r n (inr s) h =
       let g = AreGood-now (reverse cs) f h in
       let k = s.2.0 in
-      rw s.2.3 (AreGood-pushed cs ds Interned f (made (record { symbol = symbol; args = keys }) k f) s.3 (undone-made f g symbol keys r k s.2.1 s.2.2 s.0) (good-made f g symbol keys r k s.2.1 s.2.2 s.0) (fits-made f g symbol keys r k s.2.1 s.2.2 s.0) h)
+      rw s.2.3 (AreGood-pushed cs ds Interned f (made (record { symbol = symbol; args = keys }) k f) s.3 (undone-made f g symbol keys r k s.2.1 s.2.2 s.0) (good-made f g symbol keys r k s.2.1 s.2.2 s.0 n) (fits-made f g symbol keys r k s.2.1 s.2.2 s.0) h)
 
   pub interned-is : (before : History) → AreRoots (bindings_of f.slots) keys → AreGood (reverse cs) f → history (reverse cs) f ≡ before
       → IsInternedIn f f' cs ds symbol keys t → IsInterned before (history (reverse ds) f') symbol keys t
@@ -168,10 +175,10 @@ module _ (cs ds : List Change) (f f' : Fields) (symbol : Symbol) (keys : List �
             ∙ ap (λ c. grown Interns c (history (reverse cs) f)) (seen-made f g symbol keys r k s.2.1 s.2.2 s.0)),
       ))
 
-pub interned-good_by : (r : Result ℕ NoMemory) (cs ds : List Change) (f f' : Fields) (symbol : Symbol) (keys : List ℕ) → AreRoots (bindings_of f.slots) keys
+pub interned-good_by : (r : Result ℕ NoMemory) (cs ds : List Change) (f f' : Fields) (symbol : Symbol) (keys : List ℕ) → AreRoots (bindings_of f.slots) keys → length keys ≤ 8
     → IfOk r (IsInternedIn f f' cs ds symbol keys) → OnErr r (f' ≡ f) → OnErr r (ds ≡ cs) → AreGood (reverse cs) f → AreGood (reverse ds) f'
-interned-good_by (Ok t) cs ds f f' symbol keys k s p q h = interned-good cs ds f f' symbol keys t k s h
-interned-good_by (Err _) cs ds f f' symbol keys k s p q h = rw (p, q) h
+interned-good_by (Ok t) cs ds f f' symbol keys k n s p q h = interned-good cs ds f f' symbol keys t k n s h
+interned-good_by (Err _) cs ds f f' symbol keys k n s p q h = rw (p, q) h
 
 pub interned-is_by : (r : Result ℕ NoMemory) (cs ds : List Change) (f f' : Fields) (symbol : Symbol) (keys : List ℕ) (before : History)
     → AreRoots (bindings_of f.slots) keys → AreGood (reverse cs) f → history (reverse cs) f ≡ before

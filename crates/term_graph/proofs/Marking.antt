@@ -23,6 +23,7 @@ good_as f slots b h g = record {
   mentioned = rw h g.mentioned;
   shared = rw b g.shared;
   bound = rw b g.bound;
+  few = g.few;
 }
 
 pub uses_as : (slots slots' : List Slot) (cells : List Cell) (next : List ℕ) → length slots' ≡ length slots → bindings_of slots' ≡ bindings_of slots

@@ -64,6 +64,7 @@ module _ (f : Fields) (v t : ℕ) (l : v < length f.slots) (o : binding_of (bind
     mentioned = rw heads-now g.mentioned;
     shared = rw b-now (same-shared b (set b v (Term t)) f.terms f.entries same-length same-target (same-root b (set b v (Term t)) (heads_of f.slots) [] f.next same-length same-target) g.shared);
     bound = rw b-now (bound-now g);
+    few = g.few;
   }
 
   undone-termed : undone (Termed v) (with_slots now_slots f) ≡ f

@@ -1,5 +1,5 @@
 -- What a graph holds now, and what it held at each earlier length of its trail.
-use Rattle.std.specs.Prelude.{◌≡◌, ℕ, zero, suc, ◌<◌, ◌≤◌, Bool, true, false, List, [], ◌∷◌, ◌++◌, length, map, take, slice_index_or, slice_set, Option, Some, None, if◌then◌else◌, cond, nat_eq, ◌⊎◌}
+use Rattle.std.specs.Prelude.{◌≡◌, ℕ, zero, suc, ◌<◌, ◌≤◌, Bool, true, false, List, [], ◌∷◌, ◌++◌, length, map, take, slice_index_or, slice_set, Option, Some, None, All, if◌then◌else◌, cond, nat_eq, ◌⊎◌}
 use Rattle.tree_model.specs.declared.tree.Symbol.{Symbol}
 use Rattle.tree_model.specs.declared.tree.Symbol.TheVariants as symbols
 use Rattle.term_graph.specs.declared.bound.Bound.{Bound}
@@ -83,6 +83,20 @@ pub record IsForest (bindings : List Bound) : Type 0 where
   pub within : (v w : ℕ) → target_of bindings v ≡ Some w → w < length bindings
   pub ends : (v : ℕ) → target_of bindings (root bindings v) ≡ None
 
+abbrev pub no_term : Made
+no_term = record { symbol = symbols.Named 0; args = [] }
+
+abbrev pub term_at : List Made → ℕ → Made
+term_at terms t = slice_index_or terms t no_term
+
+-- numbers of variables and terms are of those there are, terms have at most eight arguments, and bindings end
+pub record IsWellFormed (c : Contents) : Type 0 where
+  pub forest : IsForest c.bindings
+  pub sizes : length c.marks ≡ length c.bindings
+  pub bound_terms : (v t : ℕ) → binding_of c.bindings v ≡ Term t → t < length c.terms
+  pub arguments : (t : ℕ) → t < length c.terms → All (λ x. x < length c.bindings) (term_at c.terms t).args
+  pub few : (t : ℕ) → t < length c.terms → length (term_at c.terms t).args ≤ 8
+
 -- f at each number below n
 abbrev pub each : {X : Type 0} → ℕ → (ℕ → X) → List X
 each zero f = []
@@ -90,12 +104,6 @@ each (suc n) f = each n f ++ f n ∷ []
 
 abbrev pub uses_at : Contents → ℕ → List ℕ
 uses_at c u = slice_index_or c.uses u []
-
-abbrev pub no_term : Made
-no_term = record { symbol = symbols.Named 0; args = [] }
-
-abbrev pub term_at : List Made → ℕ → Made
-term_at terms t = slice_index_or terms t no_term
 
 -- the term has this symbol, and these are the roots of its arguments
 pub record HasKey (bindings : List Bound) (terms : List Made) (symbol : Symbol) (keys : List ℕ) (t : ℕ) : Type 0 where

@@ -54,6 +54,7 @@ pub record IsGood (f : Fields) : Type 0 where
   pub mentioned : AreMentioned (heads_of f.slots) (owners_of f.cells) f.terms (mentions_of f.cells)
   pub shared : IsShared (bindings_of f.slots) f.terms f.entries
   pub bound : (v t : ℕ) → binding_of (bindings_of f.slots) v ≡ Term t → t < length f.terms
+  pub few : (t : ℕ) → t < length f.terms → length (term_at f.terms t).args ≤ 8
 
 -- a change that can be taken back
 abbrev pub Fits : Change → Fields → Type 0

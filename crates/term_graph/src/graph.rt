@@ -41,7 +41,7 @@ impl Model for Graph {
 }
 
 impl Graph {
-    ghost use Rattle.term_graph.specs.Contents.{empty, grown, with_variable, marked, back_to, IsGrown, root, binding_of, Leads, IsInterned, IsLeader, term_at, bound_to_term};
+    ghost use Rattle.term_graph.specs.Contents.{empty, grown, with_variable, marked, back_to, IsGrown, root, binding_of, Leads, IsInterned, IsLeader, term_at, bound_to_term, IsWellFormed};
     ghost use Rattle.term_graph.specs.Contents.Step.{Grew, BoundAt};
 
     /// No variable and no term. It takes no memory.
@@ -134,6 +134,13 @@ impl Graph {
         ensures { result ≡ length self.now.contents.terms }
     {
         self.parts.terms.len()
+    }
+
+    /// The numbers in it are of variables and terms that there are. It takes no memory.
+    pub fn well_formed(&self)
+        ensures { IsWellFormed self.now.contents }
+    {
+        let _variables = self.parts.slots.len();
     }
 
     /// What the variable is bound to. It takes no memory.
