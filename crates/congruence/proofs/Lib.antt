@@ -1,4 +1,7 @@
+pub mod Atoms
 pub mod Leaders
 pub mod Merged
 pub mod Pairs
 pub mod Shared
+pub mod Standing
+pub mod Starting
