@@ -1,3 +1,4 @@
 pub mod Agenda
+pub mod Ends
 pub mod Merges
 pub mod Starts

@@ -1,6 +1,7 @@
 //! Laws of what waits, each a clause of a function that does nothing.
 ghost use Rattle.congruence.specs.Merges.{MergeKeeps, AgendaMoves, AlikeIsSound};
 ghost use Rattle.congruence.specs.Starts.{SettledIsUnderway, AtomWaits, EquationWaits, ArgumentsWait, OwnerWaits, TermStands};
+ghost use Rattle.congruence.specs.Ends.{MarksKeepUnderway, MarksKeepFirm, SettlesAgain};
 
 /// What a merge keeps.
 pub fn merge_laws()
@@ -18,5 +19,13 @@ pub fn start_laws()
     ensures arguments { ArgumentsWait }
     ensures owner { OwnerWaits }
     ensures stands { TermStands }
+{
+}
+
+/// When nothing waits any more.
+pub fn end_laws()
+    ensures marks { MarksKeepUnderway }
+    ensures firm { MarksKeepFirm }
+    ensures settles { SettlesAgain }
 {
 }
