@@ -12,7 +12,7 @@ use Rattle.flat_form.specs.Classes.{Class, turned, joined, Reached}
 use Rattle.term_graph.specs.declared.bound.Bound.{Bound}
 use Rattle.term_graph.specs.declared.bound.Bound.TheVariants.{Free, Term}
 use Rattle.term_graph.specs.declared.term.Term.{Term as Made}
-use Rattle.term_graph.specs.Contents.{Contents, binding_of, term_at, no_term, root, IsLeader, with_term, bound_to_term}
+use Rattle.term_graph.specs.Contents.{Contents, binding_of, term_at, no_term, root, IsLeader, with_term, with_binding}
 use Rattle.settled_facts.specs.Settled.{name, IsFree, IsMarked, IsShaped, HasTermIn, Follows}
 use Rattle.settled_facts.specs.Changes.{IsTerming, IsInterning, interned}
 use Rattle.settled_facts.proofs.Changing.{change_shape, term_names, term_other, term_bound}
@@ -49,7 +49,7 @@ module _ (c : Contents) (owners : List ℕ) (atoms : List Flat) (u : ℕ) (symbo
   middle = with_term symbol (map (name c) xs) c
 
   abbrev new : Contents
-  new = bound_to_term (name c u) (length c.terms) (with_term symbol (map (name c) xs) c)
+  new = with_binding (name c u) (Term (length c.terms)) (with_term symbol (map (name c) xs) c)
 
   abbrev all : List Flat
   all = atoms ++ VarTerm u symbol xs ∷ []

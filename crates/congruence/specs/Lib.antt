@@ -2,3 +2,4 @@ pub mod Agenda
 pub mod Ends
 pub mod Merges
 pub mod Starts
+pub mod Turns

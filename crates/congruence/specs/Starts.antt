@@ -4,10 +4,11 @@ use Rattle.tree_model.specs.declared.tree.Symbol.{Symbol}
 use Rattle.flat_form.specs.declared.atom.Flat.{Flat}
 use Rattle.flat_form.specs.declared.atom.Flat.TheVariants.{VarVar, VarTerm, Finite}
 use Rattle.term_graph.specs.declared.bound.Bound.TheVariants.{Term}
-use Rattle.term_graph.specs.Contents.{Contents, binding_of, term_at, IsLeader, with_term, bound_to_term}
+use Rattle.term_graph.specs.Contents.{Contents, binding_of, term_at, IsLeader, with_term, with_binding}
 use Rattle.settled_facts.specs.Settled.{name, IsFree, IsShaped, IsSettled}
 use Rattle.congruence.specs.Agenda.{owner, Agenda, idle, Joins, HasTerm, IsUnderway}
 use Rattle.congruence.specs.Merges.{IsAgendaSound}
+use Rattle.congruence.specs.Turns.{ArePaired}
 
 -- settled contents make nothing wait
 abbrev pub SettledIsUnderway : Type 0
@@ -28,14 +29,6 @@ abbrev pub EquationWaits : Type 0
 EquationWaits = (c : Contents) (owners : List ℕ) (atoms : List Flat) (u v : ℕ)
     → IsUnderway c owners idle atoms → IsUnderway c owners (record { equal = (u, v) ∷ []; alike = [] }) (atoms ++ VarVar u v ∷ [])
 
--- x and y stand at one place
-abbrev pub AreBeside : List ℕ → List ℕ → ℕ → ℕ → Type 0
-AreBeside xs ys x y = (i : ℕ) × (i < length xs) × (slice_index xs i ≡ x) × (slice_index ys i ≡ y)
-
--- the pairs of two lists, place by place, are there beside those that were
-abbrev pub ArePaired : List ℕ → List ℕ → List (ℕ × ℕ) → List (ℕ × ℕ) → Type 0
-ArePaired xs ys old new = (x y : ℕ) → Contains new (x, y) ↔ (Contains old (x, y) ⊎ AreBeside xs ys x y)
-
 -- where the class has a term with this symbol, the arguments wait
 abbrev pub ArgumentsWait : Type 0
 ArgumentsWait = (c : Contents) (owners : List ℕ) (atoms : List Flat) (u t : ℕ) (symbol : Symbol) (xs : List ℕ) (pairs : List (ℕ × ℕ))
@@ -54,4 +47,4 @@ abbrev pub TermStands : Type 0
 TermStands = (c : Contents) (owners : List ℕ) (atoms : List Flat) (u : ℕ) (symbol : Symbol) (xs : List ℕ)
     → IsShaped c → length owners ≡ length c.terms → u < length c.bindings → ((x : ℕ) → Contains xs x → x < length c.bindings) → IsFree c (name c u) → IsLeader c.bindings c.terms symbol (map (name c) xs) None
     → IsUnderway c owners idle atoms
-    → IsUnderway (bound_to_term (name c u) (length c.terms) (with_term symbol (map (name c) xs) c)) (owners ++ name c u ∷ []) idle (atoms ++ VarTerm u symbol xs ∷ [])
+    → IsUnderway (with_binding (name c u) (Term (length c.terms)) (with_term symbol (map (name c) xs) c)) (owners ++ name c u ∷ []) idle (atoms ++ VarTerm u symbol xs ∷ [])

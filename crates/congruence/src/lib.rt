@@ -1,4 +1,8 @@
 //! Congruence closure of flat equations on a graph of terms.
+//!
+//! After Downey, Sethi and Tarjan, "Variations on the common subexpression problem": classes are bound to one another, and what
+//! a binding makes equal waits on an agenda.
 #![tactic(auto)]
 
+mod agenda;
 mod laws;
