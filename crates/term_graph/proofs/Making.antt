@@ -4,7 +4,7 @@ use Rattle.std.specs.Prelude.{Option, nat_eq, reverse, Result, Ok, Err, IfOk, On
 use Rattle.std.specs.List.{AllByRecursion}
 use Rattle.std.specs.Map.{lookup}
 use Rattle.std.proofs.lemmas.Bool.{cases_eq, eq-eqb, ne_eqb}
-use Rattle.std.proofs.lemmas.List.{length_push, length-map, map-append, get_or_push, get_or_append_left, append-nil}
+use Rattle.std.proofs.lemmas.List.{get_or_default, length_push, length-map, map-append, get_or_push, get_or_append_left, append-nil}
 use Rattle.std.proofs.lemmas.List.Elements.{recursion_from_All}
 use Rattle.lists.specs.declared.NoMemory.{NoMemory}
 use Rattle.index_lists.specs.Rings.{with_cell}
@@ -205,3 +205,11 @@ pub interned-now_by : (r : Result ℕ NoMemory) (cs ds : List Change) (f f' : Fi
     → IfOk r (IsInternedIn f f' cs ds symbol (map (root (bindings_of f.slots)) as'))
     → IfOk r (IsInterned before (history (reverse ds) f') symbol (map (root before.contents.bindings) as'))
 interned-now_by r cs ds f f' symbol as' before k h e s = rw (← e) (interned-is_by r cs ds f f' symbol (map (root (bindings_of f.slots)) as') (history (reverse cs) f) k h refl s)
+
+-- the roots of variables are variables
+pub key_below : (b : List Bound) → IsForest b → (n : ℕ) → n ≡ length b → (xs keys : List ℕ) → All (λ x. x < n) xs → keys ≡ map (root b) xs → AllByRecursion (λ x. x < length b) keys
+key_below b f n e xs keys h k =
+    subst (AllByRecursion (λ x. x < length b)) (sym k) (all_each (λ x. (x < length b) × (target_of b x ≡ None)) (λ x. x < length b) (λ x p. p.0) (map (root b) xs) (roots_are b f xs (all_within n (length b) xs e h)))
+
+pub term_is : (terms : List Made) (t : ℕ) (x : Made) → t < length terms → x ≡ get_or terms t x → x ≡ term_at terms t
+term_is terms t x l e = e ∙ get_or_default terms t x no_term l

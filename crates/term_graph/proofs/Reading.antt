@@ -11,7 +11,7 @@ use Rattle.term_graph.specs.declared.parts.Mention.{Mention}
 use Rattle.term_graph.specs.Contents.{each}
 use Rattle.term_graph.specs.Fields.{behind, round_of, noted, used}
 
-behind_is : (next : List ℕ) (stop : ℕ) {c : ℕ} {xs : List ℕ} → Way next stop c xs → (n : ℕ) → length xs ≤ n → behind n next stop c ≡ xs
+pub behind_is : (next : List ℕ) (stop : ℕ) {c : ℕ} {xs : List ℕ} → Way next stop c xs → (n : ℕ) → length xs ≤ n → behind n next stop c ≡ xs
 behind_is next stop there zero l = refl
 behind_is next stop there (suc n) l = let e : eqb stop stop ≡ true = eq-eqb stop stop refl in rw e refl
 behind_is next stop (on k p) zero l = absurd (omega arith)

@@ -1,12 +1,14 @@
 -- What was lowered is put back.
-use Rattle.std.proofs.Common.{◌≡◌, ℕ, zero, suc, ◌<◌, ◌≤◌, List, [], ◌∷◌, ◌++◌, length, take, drop, refl, sym, ◌∙◌, ap, arith, Option, Some, None, slice_get}
+use Rattle.std.proofs.Common.{◌≡◌, ℕ, zero, suc, ◌<◌, ◌≤◌, List, [], ◌∷◌, ◌++◌, length, take, drop, refl, sym, ◌∙◌, ap, arith, Some, slice_get}
 use Rattle.std.proofs.lemmas.List.{take-append-le, drop-append-le, length_push}
 use Rattle.indexmap.specs.IndexMap.{set_value_at}
 use Rattle.std.specs.Prelude.{map}
 use Rattle.std.proofs.lemmas.List.{drop_all, take_all}
 use Rattle.term_graph.specs.declared.key.Key.{Key}
 use Rattle.term_graph.specs.declared.key.Lowered.{Lowered}
+use Rattle.std.specs.Prelude.{Result, Ok, Err, OnOk, OnErr}
 use Rattle.term_graph.specs.Lowering.{restored, IsKept}
+use Rattle.term_graph.specs.Noting.{value_at}
 
 take-written : (k : ℕ) (es : List (Key × ℕ)) (i w : ℕ) → take k (set_value_at es i w) ≡ set_value_at (take k es) i w
 take-written zero es i w = refl
@@ -28,12 +30,6 @@ pub written-past : (es : List (Key × ℕ)) (i w : ℕ) → length es ≤ i → 
 written-past [] i w h = refl
 written-past (e ∷ es) zero w h = absurd (omega arith)
 written-past (e ∷ es) (suc i) w h = ap (λ xs. e ∷ xs) (written-past es i w (omega arith))
-
--- the value that stands at the place
-abbrev pub value_at : List (Key × ℕ) → ℕ → Option ℕ
-value_at [] i = None
-value_at (e ∷ es) zero = Some e.1
-value_at (e ∷ es) (suc i) = value_at es i
 
 written-own : (es : List (Key × ℕ)) (i v : ℕ) → value_at es i ≡ Some v → set_value_at es i v ≡ es
 written-own [] i v h = refl
@@ -98,3 +94,7 @@ module _ (count : ℕ) (xs ys : List Lowered) (x : Lowered) (e : xs ≡ ys ++ x 
   popped-back es fs R p h =
       let d : drop count xs ≡ drop count ys ++ x ∷ [] = ap (drop count) e ∙ drop-append-le count ys (x ∷ []) popped-within in
       ap (restored (drop count ys)) p ∙ sym (restored-push (drop count ys) x es) ∙ sym (ap (λ z. restored z es) d) ∙ h
+
+pub kept-last : {A E : Type 0} (r : Result A E) (es fs : List (Key × ℕ)) (xs : List Lowered) (e : Key × ℕ) → OnOk r (fs ≡ es ++ e ∷ []) → OnErr r (fs ≡ es) → IsKept es xs fs xs
+kept-last (Ok _) es fs xs e h k = rw h (kept-more es xs e)
+kept-last (Err _) es fs xs e h k = rw k (kept-same es xs)

@@ -8,7 +8,7 @@ use Rattle.term_graph.specs.declared.bound.Bound.TheVariants.{Free, Term}
 use Rattle.term_graph.specs.declared.parts.Slot.{Slot}
 use Rattle.term_graph.specs.declared.change.Change.{Change}
 use Rattle.term_graph.specs.declared.change.Change.TheVariants.{Termed}
-use Rattle.term_graph.specs.Contents.{History, grown, each, target, target_of, binding_of, bound_to_term}
+use Rattle.term_graph.specs.Contents.{History, grown, each, target, target_of, binding_of, with_binding}
 use Rattle.term_graph.specs.Contents.Step.{BoundAt}
 use Rattle.term_graph.specs.Fields.{Fields, free, slot_at, with_slots, bound_to, rebound, seen, undone, history, bindings_of, heads_of, mentions_of, uses_seen, uses_in, used, round_of}
 use Rattle.term_graph.specs.Good.{IsGood, AreGood}
@@ -83,7 +83,7 @@ module _ (f : Fields) (v t : ℕ) (l : v < length f.slots) (o : binding_of (bind
       ∙ each-same (length f.slots) (uses_in (set b v (Term t)) (heads_of f.slots) (mentions_of f.cells) f.next) (uses_in b (heads_of f.slots) (mentions_of f.cells) f.next)
       (λ u ul. ap (λ z. used (mentions_of f.cells) (round_of f.next (get_or (heads_of f.slots) z 0))) (same-root b (set b v (Term t)) (heads_of f.slots) [] f.next same-length same-target u))
 
-  seen-termed : seen (with_slots now_slots f) ≡ bound_to_term v t (seen f)
+  seen-termed : seen (with_slots now_slots f) ≡ with_binding v (Term t) (seen f)
   seen-termed =
       let a = b-now in
       let m = marks-now in
@@ -96,7 +96,7 @@ module _ (f : Fields) (v t : ℕ) (l : v < length f.slots) (o : binding_of (bind
         let g = AreGood-now (reverse cs) f h in
         rw q (AreGood-pushed cs ds (Termed v) f (with_slots now_slots f) p undone-termed (good-termed g) (rw length-set l) h)
 
-    termed-is : history (reverse ds) f' ≡ grown (BoundAt v) (bound_to_term v t (seen f)) (history (reverse cs) f)
+    termed-is : history (reverse ds) f' ≡ grown (BoundAt v) (with_binding v (Term t) (seen f)) (history (reverse cs) f)
     termed-is = rw q (history-pushed cs ds (Termed v) f (with_slots now_slots f) p undone-termed ∙ ap (λ c. grown (BoundAt v) c (history (reverse cs) f)) seen-termed)
 
   pub termed-good_by : {A E : Type 0} (r : Result A E) (cs ds : List Change) (f' : Fields) → OnOk r (f' ≡ with_slots (rebound v (Term t) f.slots) f)
@@ -106,6 +106,6 @@ module _ (f : Fields) (v t : ℕ) (l : v < length f.slots) (o : binding_of (bind
 
   pub termed-is_by : {A E : Type 0} (r : Result A E) (cs ds : List Change) (f' : Fields) (before : History) → history (reverse cs) f ≡ before
       → OnOk r (f' ≡ with_slots (rebound v (Term t) f.slots) f) → OnOk r (ds ≡ cs ++ Termed v ∷ [])
-      → OnOk r (history (reverse ds) f' ≡ grown (BoundAt v) (bound_to_term v t before.contents) before)
+      → OnOk r (history (reverse ds) f' ≡ grown (BoundAt v) (with_binding v (Term t) before.contents) before)
   termed-is_by (Ok _) cs ds f' before e q p = rw (← e) (termed-is cs ds f' p q)
   termed-is_by (Err _) cs ds f' before e q p = tt

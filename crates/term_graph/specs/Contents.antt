@@ -1,5 +1,5 @@
 -- What a graph holds now, and what it held at each earlier length of its trail.
-use Rattle.std.specs.Prelude.{◌≡◌, ℕ, zero, suc, ◌<◌, ◌≤◌, Bool, true, false, List, [], ◌∷◌, ◌++◌, length, map, take, slice_index_or, slice_set, Option, Some, None, All, if◌then◌else◌, cond, nat_eq, ◌⊎◌}
+use Rattle.std.specs.Prelude.{◌≡◌, ◌≢◌, ℕ, zero, suc, ◌<◌, ◌≤◌, Bool, true, false, List, [], ◌∷◌, ◌++◌, length, map, take, slice_index_or, slice_set, Option, Some, None, All, if◌then◌else◌, cond, nat_eq, ◌||◌, ◌⊎◌}
 use Rattle.tree_model.specs.declared.tree.Symbol.{Symbol}
 use Rattle.tree_model.specs.declared.tree.Symbol.TheVariants as symbols
 use Rattle.term_graph.specs.declared.bound.Bound.{Bound}
@@ -142,10 +142,31 @@ IsInterned old new symbol keys t =
     (IsLeader old.contents.bindings old.contents.terms symbol keys (Some t) × (new ≡ old))
     ⊎ (IsLeader old.contents.bindings old.contents.terms symbol keys None × (t ≡ length old.contents.terms) × (new ≡ grown Interns (with_term symbol keys old.contents) old))
 
--- v is bound to the term
-abbrev pub bound_to_term : ℕ → ℕ → Contents → Contents
-bound_to_term v t c = record { bindings = slice_set c.bindings v (Term t); marks = c.marks; terms = c.terms; uses = c.uses }
-
 -- v is marked: nothing is done where it was
 abbrev pub marked : ℕ → History → History
 marked v h = if slice_index_or h.contents.marks v false then h else grown (MarkedAt v) (with_mark v h.contents) h
+
+-- the uses of v and w are joined, for each variable that has one of them as its root
+unfoldable pub joined_uses : ℕ → ℕ → Contents → List (List ℕ)
+joined_uses v w c = each (length c.bindings) (λ u. cond (nat_eq (root c.bindings u) v || nat_eq (root c.bindings u) w) (uses_at c v ++ uses_at c w) (uses_at c u))
+
+abbrev pub uses_then : ℕ → Bound → Contents → List (List ℕ)
+uses_then v Free c = c.uses
+uses_then v (Variable x) c = joined_uses v (root c.bindings x) c
+uses_then v (Term t) c = c.uses
+
+-- v is bound, and its uses are joined to those of the root of a variable
+abbrev pub with_binding : ℕ → Bound → Contents → Contents
+with_binding v to c = record { bindings = slice_set c.bindings v to; marks = c.marks; terms = c.terms; uses = uses_then v to c }
+
+-- a root v may be bound to a variable with another root, or to its first term
+abbrev pub MayBind : Contents → ℕ → Bound → Type 0
+MayBind c v Free = ⊥
+MayBind c v (Variable x) = (x < length c.bindings) × (root c.bindings x ≢ v)
+MayBind c v (Term t) = (t < length c.terms) × (binding_of c.bindings v ≡ Free)
+
+-- where a root leads after v is bound
+abbrev pub root_then : List Bound → ℕ → Bound → ℕ → ℕ
+root_then bindings v Free r = r
+root_then bindings v (Variable x) r = cond (nat_eq r v) (root bindings x) r
+root_then bindings v (Term t) r = r

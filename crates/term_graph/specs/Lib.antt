@@ -3,3 +3,4 @@ pub mod Fields
 pub mod Good
 pub mod Keys
 pub mod Lowering
+pub mod Noting

@@ -1,5 +1,5 @@
 //! The graph: its contents now, and the moments of its trail.
-ghost use Rattle.std.specs.Prelude.{All, map, ◌≡◌, ◌≢◌, ◌<◌, ◌≤◌, None, [], ◌∷◌, ◌++◌, length, IfOk, OnOk, OnErr, slice_index_or, false};
+ghost use Rattle.std.specs.Prelude.{All, ℕ, map, ◌≡◌, ◌≢◌, ◌<◌, ◌≤◌, None, [], ◌∷◌, ◌++◌, length, IfOk, OnOk, OnErr, slice_index_or, false};
 
 use crate::Bound;
 use crate::change::Change;
@@ -41,7 +41,7 @@ impl Model for Graph {
 }
 
 impl Graph {
-    ghost use Rattle.term_graph.specs.Contents.{empty, grown, with_variable, marked, back_to, IsGrown, root, binding_of, Leads, IsInterned, IsLeader, term_at, bound_to_term, IsWellFormed};
+    ghost use Rattle.term_graph.specs.Contents.{empty, grown, with_variable, marked, back_to, IsGrown, root, binding_of, Leads, IsInterned, IsLeader, term_at, with_binding, root_then, MayBind, target_of, IsWellFormed};
     ghost use Rattle.term_graph.specs.Contents.Step.{Grew, BoundAt};
 
     /// No variable and no term. It takes no memory.
@@ -101,12 +101,40 @@ impl Graph {
         parts::shared(self.alloc, &self.parts, symbol, args)
     }
 
-    /// Binds a free variable to a term.
-    pub fn bind_term(&mut self, v: usize, t: usize) -> Result<(), NoMemory>
+    /// Binds a root: to a variable with another root, which joins their uses, or to its first term.
+    pub fn bind(&mut self, v: usize, to: Bound) -> Result<(), NoMemory>
+        requires within { v < length self.old.contents.bindings }
+        requires root { target_of self.old.contents.bindings v ≡ None }
+        requires to { MayBind self.old.contents v to }
+        ensures ok { OnOk result (self.new ≡ grown (BoundAt v) (with_binding v to self.old.contents) self.old) }
+        ensures roots { OnOk result ((u : ℕ) → root self.new.contents.bindings u ≡ root_then self.old.contents.bindings v to (root self.old.contents.bindings u)) }
+        ensures err { OnErr result (self.new ≡ self.old) }
+    {
+        self.well_formed();
+        match to {
+            Bound::Free => unreachable!(),
+            Bound::Variable(x) => self.bind_variable(v, x),
+            Bound::Term(t) => self.bind_term(v, t),
+        }
+    }
+
+    fn bind_variable(&mut self, v: usize, to: usize) -> Result<(), NoMemory>
+        requires v_in { v < length self.old.contents.bindings }
+        requires open { target_of self.old.contents.bindings v ≡ None }
+        requires to_in { to < length self.old.contents.bindings }
+        requires apart { root self.old.contents.bindings to ≢ v }
+        ensures ok { OnOk result (self.new ≡ grown (BoundAt v) (with_binding v (Bound.Variable to) self.old.contents) self.old) }
+        ensures err { OnErr result (self.new ≡ self.old) }
+    {
+        let root = self.deref(to);
+        parts::join(self.alloc, &mut self.parts, &mut self.trail, v, to, root)
+    }
+
+    fn bind_term(&mut self, v: usize, t: usize) -> Result<(), NoMemory>
         requires v_in { v < length self.old.contents.bindings }
         requires free { binding_of self.old.contents.bindings v ≡ Bound.Free }
         requires t_in { t < length self.old.contents.terms }
-        ensures ok { OnOk result (self.new ≡ grown (BoundAt v) (bound_to_term v t self.old.contents) self.old) }
+        ensures ok { OnOk result (self.new ≡ grown (BoundAt v) (with_binding v (Bound.Term t) self.old.contents) self.old) }
         ensures err { OnErr result (self.new ≡ self.old) }
     {
         parts::bind_term(&mut self.parts, &mut self.trail, v, t)

@@ -1,18 +1,19 @@
 //! The parts of a graph besides its trail, and the work on them.
-ghost use Rattle.std.specs.Prelude.{◌≡◌, ℕ, None, All, map, slice_index, ◌<◌, ◌≤◌, ◌+◌, ◌-◌, List, [], ◌∷◌, ◌++◌, length, take, drop, IfOk, OnOk, OnErr, slice_index_or, slice_set, Bool, true, false};
+ghost use Rattle.std.specs.Prelude.{◌≡◌, ◌≢◌, ℕ, None, All, map, slice_index, ◌<◌, ◌≤◌, ◌+◌, ◌-◌, List, [], ◌∷◌, ◌++◌, length, take, drop, IfOk, OnOk, OnErr, slice_index_or, slice_set, Bool, true, false};
 ghost use Rattle.indexmap.specs.IndexMap.{set_value_at};
-ghost use Rattle.term_graph.specs.Lowering.{restored};
-ghost use Rattle.term_graph.specs.Fields.{fields, undone, free, own, with_finite, slot_at, bindings_of, cut_off, with_slots, added, heads_of, mentions, mention_next, made, rebound};
+ghost use Rattle.term_graph.specs.Lowering.{restored, IsKept};
+ghost use Rattle.term_graph.specs.Fields.{fields, undone, free, own, with_finite, slot_at, bindings_of, cut_off, with_slots, added, heads_of, mentions, mention_next, made, rebound, mentions_of, noted, used, round_of};
 ghost use Rattle.term_graph.specs.Good.{Fits, IsGood, IsInternedIn};
-ghost use Rattle.term_graph.specs.Contents.{IsForest, Leads, root, IsLeader};
+ghost use Rattle.term_graph.specs.Contents.{IsForest, Leads, root, IsLeader, term_at, target_of};
+ghost use Rattle.term_graph.specs.Noting.{AreNoted, AreKeysBelow, IsRebound, IsJoined, joining};
 ghost use Rattle.term_graph.specs.Keys.{is_key_of, sign_of};
 ghost use Rattle.std.specs.List.{AllByRecursion};
 ghost use Rattle.std.specs.Map.{lookup};
 ghost use Rattle.index_lists.specs.Rings.{IsInside, with_cell};
 
 use crate::Bound;
-use crate::change::Change;
-use crate::key::{Key, Lowered, add_key, find_key, sign_key};
+use crate::change::{Change, Join};
+use crate::key::{Key, Lowered, add_key, find_key, note, sign_key};
 use crate::term::Term;
 use flat_form::Args;
 use index_lists::Rings;
@@ -141,6 +142,14 @@ pub fn binding_at(slots: &Vec<Slot>, at: usize) -> Bound
     ensures { result ≡ slice_index_or (bindings_of slots.now.items) at Bound.Free }
 {
     slots[at].binding
+}
+
+// The own cell of the variable.
+fn head_at(slots: &Vec<Slot>, at: usize) -> usize
+    requires { at < length slots.now.items }
+    ensures { result ≡ slice_index (heads_of slots.now.items) at }
+{
+    slots[at].cell
 }
 
 /// The last variable along the bindings.
@@ -354,6 +363,66 @@ pub fn share(
     }
 }
 
+// The term of the cell's mention, where it has one.
+fn push_mention(terms: &mut Vec<usize>, cell: Cell) -> Result<(), NoMemory>
+    ensures { OnOk result (terms.new.items ≡ terms.old.items ++ noted cell.mention []) }
+{
+    match cell.mention {
+        Some(mention) => {
+            terms.push(mention.term)?;
+            Ok(())
+        }
+        None => Ok(()),
+    }
+}
+
+// What the cells behind this one in its ring mention.
+fn terms_behind(
+    alloc: Global,
+    cells: &Vec<Cell>,
+    rings: &Rings,
+    head: usize,
+) -> Result<Vec<usize>, NoMemory>
+    requires head { head < length rings.now }
+    requires same { length cells.now.items ≡ length rings.now }
+    requires inside { IsInside rings.now }
+    ensures { IfOk result (λ list. list.items ≡ used (mentions_of cells.now.items) (round_of rings.now head)) }
+{
+    rings.rounds();
+    let mut terms = Vec::new(alloc);
+    let mut at = rings.next(head);
+    'walk: while at != head {
+        push_mention(&mut terms, cells[at])?;
+        at = rings.next(at);
+    }
+    Ok(terms)
+}
+
+// Notes each of these terms under its key by the roots that these slots have.
+fn note_all(
+    alloc: Global,
+    slots: &Vec<Slot>,
+    terms: &Vec<Term>,
+    table: &mut IndexMap<Key, usize>,
+    lowered: &mut Vec<Lowered>,
+    moved: &[usize],
+) -> Result<(), NoMemory>
+    requires within { (i : ℕ) → i < length moved.now → slice_index moved.now i < length terms.now.items }
+    requires args { (t : ℕ) → t < length terms.now.items → All (λ x. x < length slots.now.items) (term_at terms.now.items t).args }
+    requires forest { IsForest (bindings_of slots.now.items) }
+    ensures kept { IsKept table.old.entries lowered.old.items table.new.entries lowered.new.items }
+    ensures noted { OnOk result ((b : List Bound) → AreNoted b (bindings_of slots.now.items) terms.now.items table.old.entries [] → AreNoted b (bindings_of slots.now.items) terms.now.items table.new.entries moved.now) }
+    ensures keys { AreKeysBelow (length (bindings_of slots.now.items)) table.old.entries → AreKeysBelow (length (bindings_of slots.now.items)) table.new.entries }
+{
+    for i in 0..moved.len() {
+        let t = moved[i];
+        let symbol = terms[t].symbol;
+        let key = key_of(alloc, slots, symbol, terms[t].args.as_slice())?;
+        note(table, lowered, key, t)?;
+    }
+    Ok(())
+}
+
 // Takes the last cells away, so many of them.
 fn cut_cells(cells: &mut Vec<Cell>, rings: &mut Rings, count: usize)
     requires within { count ≤ length cells.old.items }
@@ -391,6 +460,104 @@ fn unshare(table: &mut IndexMap<Key, usize>, lowered: &mut Vec<Lowered>, keys: u
             write_where(table, last.place, last.leader);
         }
     }
+}
+
+// Another binding of the variable.
+fn set_binding(slots: &mut Vec<Slot>, v: usize, to: Bound)
+    requires { v < length slots.old.items }
+    ensures { slots.new.items ≡ rebound v to slots.old.items }
+{
+    slots[v].binding = to;
+}
+
+// Binds v to the variable, and notes the moved terms under the keys that they then have.
+fn rebind(
+    alloc: Global,
+    parts: &mut Parts,
+    v: usize,
+    to: usize,
+    moved: &[usize],
+) -> Result<(), NoMemory>
+    requires v_in { v < length parts.old.slots.items }
+    requires within { (i : ℕ) → i < length moved.now → slice_index moved.now i < length parts.old.terms.items }
+    requires args { (t : ℕ) → t < length parts.old.terms.items → All (λ x. x < length parts.old.slots.items) (term_at parts.old.terms.items t).args }
+    requires forest { IsForest (slice_set (bindings_of parts.old.slots.items) v (Bound.Variable to)) }
+    ensures ok { OnOk result (IsRebound v to moved.now (fields parts.old) (fields parts.new)) }
+    ensures err { OnErr result (fields parts.new ≡ fields parts.old) }
+{
+    let before = binding_at(&parts.slots, v);
+    let keys = parts.table.len();
+    let count = parts.lowered.len();
+    set_binding(&mut parts.slots, v, Bound::Variable(to));
+    match note_all(
+        alloc,
+        &parts.slots,
+        &parts.terms,
+        &mut parts.table,
+        &mut parts.lowered,
+        moved,
+    ) {
+        Ok(()) => {}
+        Err(NoMemory) => {
+            unshare(&mut parts.table, &mut parts.lowered, keys, count);
+            set_binding(&mut parts.slots, v, before);
+            return Err(NoMemory);
+        }
+    }
+    Ok(())
+}
+
+/// Binds the root v to the variable, and joins its ring to that of the variable's root.
+pub fn join(
+    alloc: Global,
+    parts: &mut Parts,
+    trail: &mut Vec<Change>,
+    v: usize,
+    to: usize,
+    root: usize,
+) -> Result<(), NoMemory>
+    requires good { IsGood (fields parts.old) }
+    requires v_in { v < length parts.old.slots.items }
+    requires to_in { to < length parts.old.slots.items }
+    requires root_in { root < length parts.old.slots.items }
+    requires open { target_of (bindings_of parts.old.slots.items) v ≡ None }
+    requires leads { Leads (bindings_of parts.old.slots.items) to root }
+    requires apart { root ≢ v }
+    ensures fields { OnOk result (IsJoined v to root (fields parts.old) (fields parts.new)) }
+    ensures trail { OnOk result (trail.new.items ≡ trail.old.items ++ Change.Joined (joining v root (fields parts.old)) ∷ []) }
+    ensures fields_err { OnErr result (fields parts.new ≡ fields parts.old) }
+    ensures trail_err { OnErr result (trail.new.items ≡ trail.old.items) }
+{
+    let variable_head = head_at(&parts.slots, v);
+    let root_head = head_at(&parts.slots, root);
+    let before = binding_at(&parts.slots, v);
+    let keys = parts.table.len();
+    let lowered = parts.lowered.len();
+    let moved = terms_behind(alloc, &parts.cells, &parts.rings, variable_head)?;
+    let cut = parts.rings.splice(root_head, variable_head);
+    let join = Join {
+        variable: v,
+        before,
+        cut,
+        keys,
+        lowered,
+    };
+    match trail.push(Change::Joined(join)) {
+        Ok(()) => {}
+        Err(_) => {
+            parts.rings.unsplice(cut);
+            return Err(NoMemory);
+        }
+    }
+    match rebind(alloc, parts, v, to, moved.as_slice()) {
+        Ok(()) => {}
+        Err(NoMemory) => {
+            parts.rings.unsplice(cut);
+            trail.pop();
+            return Err(NoMemory);
+        }
+    }
+    Ok(())
 }
 
 /// Takes a change back. It takes no memory.

@@ -39,7 +39,7 @@ fn undo_takes_back_a_term_a_binding_and_a_mark(rt: HostRuntime) -> Result<(), Fa
     let Bound::Free = graph.binding(0) else {
         return Err(Fail::from("a variable is free"));
     };
-    assert_eq!(rt; graph.bind_term(0, 0), Ok(()));
+    assert_eq!(rt; graph.bind(0, Bound::Term(0)), Ok(()));
     assert!(rt; graph.variables() == 2);
     assert_eq!(rt; graph.binding(0), Bound::Term(0));
     assert_eq!(rt; graph.mark_finite(1), Ok(()));

@@ -1,0 +1,37 @@
+use Rattle.std.proofs.Common.{◌∙◌, ap, refl}
+use Rattle.index_lists.specs.Rings.{exchanged}
+use Rattle.term_graph.specs.Fields.{fields, round_of}
+use Rattle.term_graph.proofs.Splicing.{with_next, fields_spliced_back, head_within, terms_within, args_within, forest_then, joined_then}
+use Rattle.term_graph.proofs.parts.join.Goals as goal
+
+pub splice-cut-requires-clause-a_in : goal.splice-cut-requires-clause-a_in
+splice-cut-requires-clause-a_in c = head_within (fields c.args.parts.now) c.requires.good c.args.root c.head_at-root_head.result c.requires.root_in c.head_at-root_head.ensures
+
+pub rebind-requires-clause-within : goal.rebind-requires-clause-within
+rebind-requires-clause-within c = terms_within (fields c.args.parts.now) c.requires.good c.as_slice.result.now (round_of c.args.parts.now.rings c.head_at-variable_head.result) (c.as_slice.ensures.value ∙ c.in_ok-moved.ensures)
+
+pub rebind-requires-clause-args : goal.rebind-requires-clause-args
+rebind-requires-clause-args c = args_within (fields c.args.parts.now) c.requires.good
+
+pub rebind-requires-clause-forest : goal.rebind-requires-clause-forest
+rebind-requires-clause-forest c = forest_then (fields c.args.parts.now) c.requires.good c.args.v c.args.to c.args.root c.requires.v_in c.requires.to_in c.requires.root_in c.requires.open c.requires.apart c.requires.leads
+
+pub returns-clause-fields : goal.returns-clause-fields
+returns-clause-fields c =
+    joined_then (fields c.args.parts.now) c.requires.good c.args.v c.args.to c.args.root c.requires.v_in c.requires.to_in c.requires.root_in c.requires.open c.requires.apart c.requires.leads
+    c.head_at-variable_head.result c.head_at-root_head.result c.as_slice.result.now c.splice-cut.new.self c.head_at-variable_head.ensures c.head_at-root_head.ensures (c.as_slice.ensures.value ∙ c.in_ok-moved.ensures) c.splice-cut.ensures.exchanged
+    (fields c.rebind.new.parts) c.in-Ok-rebind.ensures.ok
+
+pub returns-in-Err-clause-fields_err : goal.returns-in-Err-clause-fields_err
+returns-in-Err-clause-fields_err c =
+    let al = head_within (fields c.args.parts.now) c.requires.good c.args.root c.head_at-root_head.result c.requires.root_in c.head_at-root_head.ensures in
+    let bl = head_within (fields c.args.parts.now) c.requires.good c.args.v c.head_at-variable_head.result c.requires.v_in c.head_at-variable_head.ensures in
+    fields_spliced_back (fields c.args.parts.now) (with_next c.splice-cut.new.self (fields c.args.parts.now)) c.head_at-root_head.result c.head_at-variable_head.result c.splice-cut.new.self c.unsplice.new.self al bl c.splice-cut.ensures.exchanged refl
+    (c.unsplice.ensures.exchanged ∙ ap (λ k. exchanged k.a k.b c.splice-cut.new.self) c.splice-cut.ensures.cut)
+
+pub returns-in-Err-rebind-clause-fields_err : goal.returns-in-Err-rebind-clause-fields_err
+returns-in-Err-rebind-clause-fields_err c =
+    let al = head_within (fields c.args.parts.now) c.requires.good c.args.root c.head_at-root_head.result c.requires.root_in c.head_at-root_head.ensures in
+    let bl = head_within (fields c.args.parts.now) c.requires.good c.args.v c.head_at-variable_head.result c.requires.v_in c.head_at-variable_head.ensures in
+    fields_spliced_back (fields c.args.parts.now) (fields c.rebind.new.parts) c.head_at-root_head.result c.head_at-variable_head.result c.splice-cut.new.self c.unsplice-in-Err-rebind.new.self al bl c.splice-cut.ensures.exchanged c.in-Err-rebind.ensures.err
+    (c.unsplice-in-Err-rebind.ensures.exchanged ∙ ap (λ k. exchanged k.a k.b c.rebind.new.parts.rings) c.splice-cut.ensures.cut)
