@@ -171,9 +171,11 @@ is_later before after touched shaped (joined v w e j) = record {
     | inl i ↦ subst (λ (z : ℕ). target_of before.bindings z ≡ None) (sym i) j.root
     | inr n ↦ sym (ap target (join_other before after v w shaped j r n)) ∙ f
   ];
-  free = λ r f. elim (cases_eq r v) [
-    | inl i ↦ absurd (let g : IsFree after v = subst (λ (z : ℕ). IsFree after z) i f in let h = join_bound before after v w shaped j in cc)
-    | inr n ↦ sym (join_other before after v w shaped j r n) ∙ f
+  free = λ u f. elim (cases_eq (name before u) v) [
+    | inl i ↦ (let g : IsFree after w = subst (λ (z : ℕ). IsFree after z) (join_moves before after v w shaped j u i) f in
+        let h : IsFree before w = sym (join_other before after v w shaped j w j.apart) ∙ g in
+        subst (λ (z : ℕ). IsFree before z) (sym i) (j.keeps h))
+    | inr n ↦ sym (join_other before after v w shaped j (name before u) n) ∙ subst (λ (z : ℕ). IsFree after z) (join_keeps before after v w shaped j u n) f
   ];
   marks = same_marks before after j.marks;
   count = same_count before after j.terms;
@@ -183,9 +185,9 @@ is_later before after touched shaped (termed v t e j) = record {
   variables = term_length before after v t j;
   names = same_name before after shaped (term_names before after v t j shaped);
   roots = λ r f. sym (term_targets before after v t j r) ∙ f;
-  free = λ r f. elim (cases_eq r v) [
+  free = λ u f. elim (cases_eq (name before u) v) [
     | inl i ↦ subst (λ (z : ℕ). IsFree before z) (sym i) j.free
-    | inr n ↦ sym (term_other before after v t j r n) ∙ f
+    | inr n ↦ sym (term_other before after v t j (name before u) n) ∙ subst (λ (z : ℕ). IsFree after z) (term_names before after v t j shaped u) f
   ];
   marks = same_marks before after j.marks;
   count = same_count before after j.terms;
@@ -195,7 +197,7 @@ is_later before after touched shaped (marked v e j) = record {
   variables = ap length j.bindings;
   names = same_name before after shaped (λ u. ap (λ b. root b u) j.bindings);
   roots = λ r f. ap (λ b. target_of b r) (sym j.bindings) ∙ f;
-  free = λ r f. ap (λ b. binding_of b r) (sym j.bindings) ∙ f;
+  free = λ u f. subst (λ (b : List Bound). binding_of b (root b u) ≡ Free) j.bindings f;
   marks = λ r m. ap (λ z. slice_index_or z r false) j.marks ∙ set_stays before.marks v r m;
   count = same_count before after j.terms;
   terms = same_terms before after j.terms;
@@ -204,7 +206,7 @@ is_later before after touched shaped (interned e j) = record {
   variables = ap length j.bindings;
   names = same_name before after shaped (λ u. ap (λ b. root b u) j.bindings);
   roots = λ r f. ap (λ b. target_of b r) (sym j.bindings) ∙ f;
-  free = λ r f. ap (λ b. binding_of b r) (sym j.bindings) ∙ f;
+  free = λ u f. subst (λ (b : List Bound). binding_of b (root b u) ≡ Free) j.bindings f;
   marks = same_marks before after j.marks;
   count = omega (arith, ap length j.terms, length_push before.terms j.term);
   terms = λ t w. ap (λ z. term_at z t) j.terms ∙ at_pushed before.terms j.term t w;
@@ -218,7 +220,7 @@ later_later one two three a b = record {
   variables = b.variables ∙ a.variables;
   names = λ u. b.names u ∙ ap (name three) (a.names u) ∙ sym (b.names (name one u));
   roots = λ r f. a.roots r (b.roots r f);
-  free = λ r f. a.free r (b.free r f);
+  free = λ v f. a.free v (b.free v f);
   marks = λ r m. b.marks r (a.marks r m);
   count = omega (arith, a.count, b.count);
   terms = λ t w. b.terms t (omega (arith, a.count, w)) ∙ a.terms t w;

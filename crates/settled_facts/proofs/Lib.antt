@@ -1,7 +1,12 @@
 pub mod Changing
 pub mod Closing
+pub mod Ending
 pub mod FormSettled
 pub mod Forms
+pub mod FreeStays
+pub mod More
+pub mod Overlays
 pub mod ReadOff
 pub mod Solvable
 pub mod Terms
+pub mod Unchanged

@@ -5,7 +5,7 @@ use Rattle.term_graph.specs.declared.term.Term.{Term as Made}
 use Rattle.term_graph.specs.Contents.{Contents, binding_of, target_of, term_at}
 use Rattle.settled_facts.specs.Settled.{name, IsFree, IsMarked, IsShaped}
 
--- v, which is a root, is bound to a variable with another root w
+-- v, which is a root, is bound to a variable with another root w, which has a term if v has one
 pub record IsJoin (before after : Contents) (v w : ℕ) : Type 0 where
   pub to : ℕ
   pub bindings : after.bindings ≡ slice_set before.bindings v (Variable to)
@@ -16,6 +16,7 @@ pub record IsJoin (before after : Contents) (v w : ℕ) : Type 0 where
   pub to_within : to < length before.bindings
   pub leads : name before to ≡ w
   pub apart : ¬ (w ≡ v)
+  pub keeps : IsFree before w → IsFree before v
 
 -- v, which is free, is bound to the term
 pub record IsTerming (before after : Contents) (v t : ℕ) : Type 0 where
@@ -50,12 +51,12 @@ pub data IsChange (before after : Contents) (touched : List ℕ) : Type 0 where
   marked : (v : ℕ) → touched ≡ v ∷ [] → IsMarking before after v → IsChange before after touched
   interned : touched ≡ [] → IsInterning before after → IsChange before after touched
 
--- Variables that had one name have one, no root and no free variable comes back, and no mark or term goes.
+-- Variables that had one name have one, no root comes back, each class that is free was free, and no mark or term goes.
 pub record IsLater (then now : Contents) : Type 0 where
   pub variables : length now.bindings ≡ length then.bindings
   pub names : (u : ℕ) → name now u ≡ name now (name then u)
   pub roots : (r : ℕ) → target_of now.bindings r ≡ None → target_of then.bindings r ≡ None
-  pub free : (r : ℕ) → IsFree now r → IsFree then r
+  pub free : (v : ℕ) → IsFree now (name now v) → IsFree then (name then v)
   pub marks : (r : ℕ) → IsMarked then r → IsMarked now r
   pub count : length then.terms ≤ length now.terms
   pub terms : (t : ℕ) → t < length then.terms → term_at now.terms t ≡ term_at then.terms t
@@ -99,3 +100,15 @@ abbrev pub TouchedWasRoot : Type 0
 TouchedWasRoot =
     (before after : Contents) (touched : List ℕ) (r : ℕ) → IsShaped before → IsChange before after touched → Contains touched r
     → target_of before.bindings r ≡ None
+
+-- the change binds a free variable or marks it
+pub data TakesFree (before after : Contents) : Type 0 where
+  by_join : (v w : ℕ) → IsJoin before after v w → IsFree before v → TakesFree before after
+  by_term : (v t : ℕ) → IsTerming before after v t → TakesFree before after
+  by_mark : (v : ℕ) → IsMarking before after v → TakesFree before after
+
+-- free variables stay free and get no mark exactly where no change takes one
+abbrev pub FreeStayUnlessTaken : Type 0
+FreeStayUnlessTaken =
+    (then before after : Contents) (touched : List ℕ) → IsShaped before → IsLater then before → IsChange before after touched
+    → FreeStay then after ↔ (FreeStay then before × (¬ TakesFree before after))

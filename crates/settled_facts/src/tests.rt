@@ -5,4 +5,7 @@ use std::test::*;
 fn laws_can_be_called(_rt: HostRuntime) {
     change_laws();
     form_laws();
+    more_laws();
+    overlay_laws();
+    walk_laws();
 }

@@ -1,4 +1,5 @@
 use Rattle.settled_facts.proofs.Changing.{join_renames, change_shape, change_later, later_later, untouched_unchanged, unchanged_unchanged, touched_root}
+use Rattle.settled_facts.proofs.FreeStays.{free_stay_unless_taken}
 use Rattle.settled_facts.proofs.laws.change_laws.Goals as goal
 
 pub returns-clause-names : goal.returns-clause-names
@@ -21,3 +22,6 @@ returns-clause-unchanged_yet c = unchanged_unchanged
 
 pub returns-clause-roots : goal.returns-clause-roots
 returns-clause-roots c = touched_root
+
+pub returns-clause-free : goal.returns-clause-free
+returns-clause-free c = free_stay_unless_taken
