@@ -15,7 +15,6 @@ use Rattle.settled_facts.proofs.Terms.{named_class, name_twice}
 use Rattle.congruence.specs.Agenda.{owner, Pairwise, Agenda, idle, AreAlike, IsBacked, Joins, named, back, through, equated, congruent, HasTerm, IsSound, IsComplete, IsUnderway}
 use Rattle.congruence.specs.Merges.{AreKept, IsAgendaSound}
 use Rattle.congruence.specs.Starts.{IsHeeded, SettledIsUnderway, AtomWaits, EquationWaits, ArgumentsWait, OwnerWaits}
-use Rattle.congruence.specs.Turns.{AreBeside}
 use Rattle.congruence.proofs.Pairs.{pairwise_as, pairwise_back, pairwise_through, pairwise_itself, names_pairwise, pairwise_names}
 use Rattle.congruence.proofs.Atoms.{contains_none, contains_last, before_or_last, class_as, reached_as}
 use Rattle.congruence.proofs.Merged.{lifted, lifted_args}

@@ -6,3 +6,5 @@
 
 mod agenda;
 mod laws;
+mod merging;
+mod noting;
