@@ -1,5 +1,5 @@
 -- A term more, with its mentions.
-use Rattle.std.proofs.Common.{ℕ, zero, suc, ◌≡◌, ◌≢◌, ◌<◌, ◌≤◌, ◌+◌, ◌-◌, true, List, [], ◌∷◌, ◌++◌, length, take, map, get_or, refl, sym, ap, ◌∙◌, subst, inl, inr, Some, None, arith, append_assoc, length-append}
+use Rattle.std.proofs.Common.{ℕ, zero, suc, ◌≡◌, ◌≢◌, ◌<◌, ◌≤◌, ◌+◌, ◌-◌, true, List, [], ◌∷◌, ◌++◌, length, take, map, get_or, refl, sym, ap, ◌∙◌, subst, inl, inr, Some, None, arith, append_assoc, length-append, ◌⊎◌}
 use Rattle.std.specs.Prelude.{Option}
 use Rattle.std.specs.List.{AllByRecursion}
 use Rattle.std.proofs.lemmas.Bool.{cases_eq, cases_lt}
@@ -302,12 +302,33 @@ module _ (heads owners : List ℕ) (terms : List Made) (ms : List (Option Mentio
     | inr n ↦ (let s : t < length terms = omega (arith, n, length_push terms term) in all_old t i s (rw (old_term t s) at k))
   ]
 
+  -- a mention is an old one, or one of the new term
+  old_or_new : (c : ℕ) (m : Mention) → get_or (ms ++ ns) c None ≡ Some m → ((m.term < length terms) × (get_or ms c None ≡ Some m)) ⊎ ((m.term ≡ length terms) × (c ≡ length ms + m.place))
+  old_or_new c m e =
+      let l = mention_in (ms ++ ns) c m e in
+      elim (cases_lt c (length ms)) [
+        | inl s ↦ inl ((g.right c m (sym (old_place c s) ∙ e)).0, sym (old_place c s) ∙ e)
+        | inr s ↦ (
+            let k : c - length ms < length term.args = omega (arith, l, length-append ms ns, ns-length) in
+            let p : c ≡ length ms + (c - length ms) = omega arith in
+            let q : Some (record { term = length terms; place = c - length ms }) ≡ Some m = sym (ap (λ z. get_or (ms ++ ns) z None) p ∙ new_place (c - length ms) k) ∙ e in
+            let m' : record { term = length terms; place = c - length ms } ≡ m = cc in
+            inr (sym (ap (λ x. x.term) m'), p ∙ ap (λ x. length ms + x.place) m'))
+      ]
+
+  once_made : (c d : ℕ) (m : Mention) → get_or (ms ++ ns) c None ≡ Some m → get_or (ms ++ ns) d None ≡ Some m → c ≡ d
+  once_made c d m e f = elim (old_or_new c m e) [
+    | inl p ↦ elim (old_or_new d m f) [ inl q ↦ g.once c d m p.1 q.1 | inr q ↦ absurd (let a = p.0 in let b = q.0 in omega arith) ]
+    | inr p ↦ elim (old_or_new d m f) [ inl q ↦ absurd (let a = p.0 in let b = q.0 in omega arith) | inr q ↦ p.1 ∙ sym q.1 ]
+  ]
+
   pub mentioned_made : AreMentioned heads (owners ++ term.args) (terms ++ term ∷ []) (ms ++ mentions_of (mentions (length terms) 0 term.args))
   mentioned_made = record {
     cells = omega (arith, length-append ms ns, length-append owners term.args, ns-length, g.cells);
     own = λ v l. old_place (get_or heads v 0) (inside v l) ∙ g.own v l;
     right = right_made;
     all = all_made;
+    once = once_made;
   }
 
 -- the table with the new term

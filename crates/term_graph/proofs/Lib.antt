@@ -20,4 +20,5 @@ pub mod Sharing
 pub mod Splicing
 pub mod Terming
 pub mod Trailing
+pub mod Using
 pub mod Walking

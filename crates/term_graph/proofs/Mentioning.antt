@@ -40,4 +40,5 @@ module _ (heads owners : List ℕ) (terms : List Made) (ms : List (Option Mentio
     own = λ v l. own_more v (rw length_push at l);
     right = λ c m e. (let k = back_more c m e in let r = g.right c m k.1 in (r.0, r.1, r.2 ∙ sym (owner_more c (rw (← g.cells) k.0))));
     all = λ t i l k. (let w = g.all t i l k in let wl = w.1 in (w.0, omega (arith, length_push owners o), old_mention w.0 (rw g.cells wl) ∙ w.2));
+    once = λ c d m e f. g.once c d m (back_more c m e).1 (back_more d m f).1;
   }

@@ -1,5 +1,6 @@
 -- What a graph holds now, and what it held at each earlier length of its trail.
-use Rattle.std.specs.Prelude.{◌≡◌, ◌≢◌, ℕ, zero, suc, ◌<◌, ◌≤◌, Bool, true, false, List, [], ◌∷◌, ◌++◌, length, map, take, slice_index_or, slice_set, Option, Some, None, All, if◌then◌else◌, cond, nat_eq, ◌||◌, ◌⊎◌}
+use Rattle.std.specs.Prelude.{◌≡◌, ◌≢◌, ℕ, zero, suc, ◌<◌, ◌≤◌, Bool, true, false, List, [], ◌∷◌, ◌++◌, length, map, take, slice_index_or, slice_set, Option, Some, None, All, Contains, ◌↔◌, if◌then◌else◌, cond, nat_eq, ◌||◌, ◌⊎◌}
+use Rattle.lists.specs.Distinct.{IsDistinct}
 use Rattle.tree_model.specs.declared.tree.Symbol.{Symbol}
 use Rattle.tree_model.specs.declared.tree.Symbol.TheVariants as symbols
 use Rattle.term_graph.specs.declared.bound.Bound.{Bound}
@@ -115,6 +116,11 @@ pub record HasKey (bindings : List Bound) (terms : List Made) (symbol : Symbol) 
 abbrev pub IsLeader : List Bound → List Made → Symbol → List ℕ → Option ℕ → Type 0
 IsLeader bindings terms symbol keys None = (t : ℕ) → ¬ HasKey bindings terms symbol keys t
 IsLeader bindings terms symbol keys (Some m) = HasKey bindings terms symbol keys m × ((t : ℕ) → HasKey bindings terms symbol keys t → m ≤ t)
+
+-- the terms that mention a variable with this root, each once
+pub record AreUsers (bindings : List Bound) (terms : List Made) (r : ℕ) (list : List ℕ) : Type 0 where
+  pub distinct : IsDistinct list
+  pub each : (t : ℕ) → Contains list t ↔ ((t < length terms) × Contains (map (root bindings) (term_at terms t).args) r)
 
 abbrev pub with_variable : Contents → Contents
 with_variable c = record { bindings = c.bindings ++ Free ∷ []; marks = c.marks ++ false ∷ []; terms = c.terms; uses = c.uses ++ [] ∷ [] }

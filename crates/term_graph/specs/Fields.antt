@@ -1,5 +1,6 @@
 -- The contents read off the fields, and how a change is taken back.
 use Rattle.std.specs.Prelude.{Option, Some, None, cond, nat_eq, ℕ, zero, suc, ◌+◌, ◌-◌, drop, true, false, List, [], ◌∷◌, ◌++◌, length, map, take, slice_index, slice_index_or, slice_set}
+use Rattle.std.specs.List.{position_or_len}
 use Rattle.term_graph.specs.declared.bound.Bound.{Bound}
 use Rattle.term_graph.specs.declared.bound.Bound.TheVariants.{Free}
 use Rattle.term_graph.specs.declared.term.Term.{Term as Made}
@@ -66,6 +67,15 @@ noted (Some m) ts = m.term ∷ ts
 abbrev pub used : List (Option Mention) → List ℕ → List ℕ
 used mentions [] = []
 used mentions (c ∷ cs) = noted (slice_index_or mentions c None) (used mentions cs)
+
+-- the first place of an argument with this root
+abbrev pub first_of : List Bound → List Made → ℕ → ℕ → ℕ
+first_of bindings terms r t = position_or_len (λ x. nat_eq (root bindings x) r) (term_at terms t).args
+
+-- the term of a mention, where it is the first of an argument with this root
+abbrev pub chosen : List Bound → List Made → ℕ → Option Mention → List ℕ
+chosen bindings terms r None = []
+chosen bindings terms r (Some m) = cond (nat_eq m.place (first_of bindings terms r m.term)) (m.term ∷ []) []
 
 abbrev pub uses_in : List Bound → List ℕ → List (Option Mention) → List ℕ → ℕ → List ℕ
 uses_in bindings heads mentions next u = used mentions (round_of next (slice_index heads (root bindings u)))

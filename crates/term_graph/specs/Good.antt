@@ -31,7 +31,7 @@ pub record AreRinged (bindings : List Bound) (heads owners next : List ℕ) : Ty
   pub owner : (c : ℕ) → c < length next → slice_index owners c < length bindings
   pub classes : (r : ℕ) → r < length bindings → target_of bindings r ≡ None → IsClass bindings heads owners next r
 
--- the own cells mention nothing, each other cell is a mention, and each argument of a term has its cell
+-- the own cells mention nothing, each other cell is a mention, and each argument of a term has one cell
 pub record AreMentioned (heads owners : List ℕ) (terms : List Made) (mentions : List (Option Mention)) : Type 0 where
   pub cells : length mentions ≡ length owners
   pub own : (v : ℕ) → v < length heads → slice_index_or mentions (slice_index heads v) None ≡ None
@@ -39,6 +39,7 @@ pub record AreMentioned (heads owners : List ℕ) (terms : List Made) (mentions 
       → (m.term < length terms) × (m.place < length (term_at terms m.term).args) × (slice_index (term_at terms m.term).args m.place ≡ slice_index owners c)
   pub all : (t i : ℕ) → t < length terms → i < length (term_at terms t).args
       → (c : ℕ) × (c < length owners) × (slice_index_or mentions c None ≡ Some (record { term = t; place = i }))
+  pub once : (c d : ℕ) (m : Mention) → slice_index_or mentions c None ≡ Some m → slice_index_or mentions d None ≡ Some m → c ≡ d
 
 -- each of these is a variable that is its own root
 abbrev pub AreRoots : List Bound → List ℕ → Type 0

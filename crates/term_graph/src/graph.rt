@@ -10,7 +10,7 @@ use indexmap::IndexMap;
 use lists::NoMemory;
 use std::alloc::Global;
 use std::marker::Model;
-use tree_model::Symbol;
+use tree_model::{Places, Symbol};
 
 /// A length of the trail.
 #[derive(Clone, Copy)]
@@ -41,7 +41,7 @@ impl Model for Graph {
 }
 
 impl Graph {
-    ghost use Rattle.term_graph.specs.Contents.{empty, grown, with_variable, marked, back_to, IsGrown, root, binding_of, Leads, IsInterned, IsLeader, term_at, with_binding, root_then, MayBind, target_of, IsWellFormed};
+    ghost use Rattle.term_graph.specs.Contents.{empty, grown, with_variable, marked, back_to, IsGrown, root, binding_of, Leads, IsInterned, IsLeader, term_at, with_binding, root_then, MayBind, target_of, AreUsers, IsWellFormed};
     ghost use Rattle.term_graph.specs.Contents.Step.{Grew, BoundAt};
 
     /// No variable and no term. It takes no memory.
@@ -148,6 +148,15 @@ impl Graph {
         ensures leads { Leads self.now.contents.bindings v result }
     {
         root_of(&self.parts.slots, v)
+    }
+
+    /// The terms that mention a variable with the root of v, each once.
+    pub fn users(&self, alloc: Global, v: usize) -> Result<Places, NoMemory>
+        requires { v < length self.now.contents.bindings }
+        ensures { IfOk result (AreUsers self.now.contents.bindings self.now.contents.terms (root self.now.contents.bindings v)) }
+    {
+        let root = self.deref(v);
+        parts::users(alloc, &self.parts, root)
     }
 
     /// How many variables there are. It takes no memory.

@@ -1,13 +1,14 @@
 //! The parts of a graph besides its trail, and the work on them.
-ghost use Rattle.std.specs.Prelude.{◌≡◌, ◌≢◌, ℕ, None, All, map, slice_index, ◌<◌, ◌≤◌, ◌+◌, ◌-◌, List, [], ◌∷◌, ◌++◌, length, take, drop, IfOk, OnOk, OnErr, slice_index_or, slice_set, Bool, true, false};
+ghost use Rattle.std.specs.Prelude.{◌≡◌, ◌≢◌, ℕ, None, Some, nat_eq, All, map, slice_index, ◌<◌, ◌≤◌, ◌+◌, ◌-◌, List, [], ◌∷◌, ◌++◌, length, take, drop, IfOk, OnOk, OnErr, slice_index_or, slice_set, Bool, true, false};
 ghost use Rattle.indexmap.specs.IndexMap.{set_value_at};
 ghost use Rattle.term_graph.specs.Lowering.{restored, IsKept};
-ghost use Rattle.term_graph.specs.Fields.{fields, undone, free, own, with_finite, slot_at, bindings_of, cut_off, with_slots, added, heads_of, mentions, mention_next, made, rebound, mentions_of, noted, used, round_of};
+ghost use Rattle.term_graph.specs.Fields.{fields, undone, free, own, with_finite, slot_at, bindings_of, cut_off, with_slots, added, heads_of, mentions, mention_next, made, rebound, chosen};
 ghost use Rattle.term_graph.specs.Good.{Fits, IsGood, IsInternedIn};
-ghost use Rattle.term_graph.specs.Contents.{IsForest, Leads, root, IsLeader, term_at, target_of};
+ghost use Rattle.term_graph.specs.Contents.{IsForest, Leads, root, IsLeader, term_at, target_of, AreUsers};
 ghost use Rattle.term_graph.specs.Noting.{AreNoted, AreKeysBelow, IsRebound, IsJoined, joining};
 ghost use Rattle.term_graph.specs.Keys.{is_key_of, sign_of};
-ghost use Rattle.std.specs.List.{AllByRecursion};
+ghost use Rattle.std.specs.List.{AllByRecursion, position_or_len};
+ghost use Rattle.term_graph.specs.declared.parts.Mention.{Mention};
 ghost use Rattle.std.specs.Map.{lookup};
 ghost use Rattle.index_lists.specs.Rings.{IsInside, with_cell};
 
@@ -21,7 +22,7 @@ use indexmap::IndexMap;
 use lists::NoMemory;
 use smallvec::SmallVec;
 use std::alloc::Global;
-use tree_model::Symbol;
+use tree_model::{Places, Symbol};
 
 /// What the graph keeps of a variable. The cell is its own one, which mentions nothing.
 #[derive(Clone, Copy)]
@@ -363,39 +364,62 @@ pub fn share(
     }
 }
 
-// The term of the cell's mention, where it has one.
-fn push_mention(terms: &mut Vec<usize>, cell: Cell) -> Result<(), NoMemory>
-    ensures { OnOk result (terms.new.items ≡ terms.old.items ++ noted cell.mention []) }
+// The first place of an argument with this root.
+fn first_place(slots: &Vec<Slot>, args: &[usize], class: usize) -> usize
+    requires within { All (λ x. x < length slots.now.items) args.now }
+    requires forest { IsForest (bindings_of slots.now.items) }
+    ensures { result ≡ position_or_len (λ x. nat_eq (root (bindings_of slots.now.items) x) class) args.now }
+{
+    for i in 0..args.len() {
+        let root = root_of(slots, args[i]);
+        if root == class {
+            return i;
+        }
+    }
+    args.len()
+}
+
+// The term of the cell's mention, where it is the first of an argument with this root.
+fn push_user(
+    users: &mut Places,
+    slots: &Vec<Slot>,
+    terms: &Vec<Term>,
+    class: usize,
+    cell: Cell,
+) -> Result<(), NoMemory>
+    requires mention { (m : Mention) → cell.mention ≡ Some m → m.term < length terms.now.items }
+    requires args { (t : ℕ) → t < length terms.now.items → All (λ x. x < length slots.now.items) (term_at terms.now.items t).args }
+    requires forest { IsForest (bindings_of slots.now.items) }
+    ensures { OnOk result (users.new ≡ users.old ++ chosen (bindings_of slots.now.items) terms.now.items class cell.mention) }
 {
     match cell.mention {
         Some(mention) => {
-            terms.push(mention.term)?;
+            let first = first_place(slots, terms[mention.term].args.as_slice(), class);
+            if mention.place == first {
+                users.push(mention.term)?;
+            }
             Ok(())
         }
         None => Ok(()),
     }
 }
 
-// What the cells behind this one in its ring mention.
-fn terms_behind(
-    alloc: Global,
-    cells: &Vec<Cell>,
-    rings: &Rings,
-    head: usize,
-) -> Result<Vec<usize>, NoMemory>
-    requires head { head < length rings.now }
-    requires same { length cells.now.items ≡ length rings.now }
-    requires inside { IsInside rings.now }
-    ensures { IfOk result (λ list. list.items ≡ used (mentions_of cells.now.items) (round_of rings.now head)) }
+/// The terms that mention a variable with this root, each once.
+pub fn users(alloc: Global, parts: &Parts, class: usize) -> Result<Places, NoMemory>
+    requires good { IsGood (fields parts.now) }
+    requires class_in { class < length parts.now.slots.items }
+    requires open { target_of (bindings_of parts.now.slots.items) class ≡ None }
+    ensures { IfOk result (AreUsers (bindings_of parts.now.slots.items) parts.now.terms.items class) }
 {
-    rings.rounds();
-    let mut terms = Vec::new(alloc);
-    let mut at = rings.next(head);
+    let head = head_at(&parts.slots, class);
+    let mut users = Places::new(alloc);
+    let mut at = parts.rings.next(head);
     'walk: while at != head {
-        push_mention(&mut terms, cells[at])?;
-        at = rings.next(at);
+        let cell = parts.cells[at];
+        push_user(&mut users, &parts.slots, &parts.terms, class, cell)?;
+        at = parts.rings.next(at);
     }
-    Ok(terms)
+    Ok(users)
 }
 
 // Notes each of these terms under its key by the roots that these slots have.
@@ -533,7 +557,7 @@ pub fn join(
     let before = binding_at(&parts.slots, v);
     let keys = parts.table.len();
     let lowered = parts.lowered.len();
-    let moved = terms_behind(alloc, &parts.cells, &parts.rings, variable_head)?;
+    let moved = users(alloc, parts, v)?;
     let cut = parts.rings.splice(root_head, variable_head);
     let join = Join {
         variable: v,

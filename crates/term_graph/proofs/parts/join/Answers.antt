@@ -1,14 +1,16 @@
-use Rattle.std.proofs.Common.{◌∙◌, ap, refl}
+use Rattle.std.proofs.Common.{◌∙◌, ap, refl, sym, subst}
 use Rattle.index_lists.specs.Rings.{exchanged}
-use Rattle.term_graph.specs.Fields.{fields, round_of}
-use Rattle.term_graph.proofs.Splicing.{with_next, fields_spliced_back, head_within, terms_within, args_within, forest_then, joined_then}
+use Rattle.term_graph.specs.Contents.{AreUsers}
+use Rattle.term_graph.proofs.Forming.{args_within}
+use Rattle.term_graph.specs.Fields.{fields, bindings_of}
+use Rattle.term_graph.proofs.Splicing.{with_next, fields_spliced_back, head_within, users_within, forest_then, joined_then}
 use Rattle.term_graph.proofs.parts.join.Goals as goal
 
 pub splice-cut-requires-clause-a_in : goal.splice-cut-requires-clause-a_in
 splice-cut-requires-clause-a_in c = head_within (fields c.args.parts.now) c.requires.good c.args.root c.head_at-root_head.result c.requires.root_in c.head_at-root_head.ensures
 
 pub rebind-requires-clause-within : goal.rebind-requires-clause-within
-rebind-requires-clause-within c = terms_within (fields c.args.parts.now) c.requires.good c.as_slice.result.now (round_of c.args.parts.now.rings c.head_at-variable_head.result) (c.as_slice.ensures.value ∙ c.in_ok-moved.ensures)
+rebind-requires-clause-within c = users_within (fields c.args.parts.now) c.requires.good c.args.v c.as_slice.result.now (subst (AreUsers (bindings_of c.args.parts.now.slots.items) c.args.parts.now.terms.items c.args.v) (sym c.as_slice.ensures) c.in_ok-moved.ensures)
 
 pub rebind-requires-clause-args : goal.rebind-requires-clause-args
 rebind-requires-clause-args c = args_within (fields c.args.parts.now) c.requires.good
@@ -19,7 +21,7 @@ rebind-requires-clause-forest c = forest_then (fields c.args.parts.now) c.requir
 pub returns-clause-fields : goal.returns-clause-fields
 returns-clause-fields c =
     joined_then (fields c.args.parts.now) c.requires.good c.args.v c.args.to c.args.root c.requires.v_in c.requires.to_in c.requires.root_in c.requires.open c.requires.apart c.requires.leads
-    c.head_at-variable_head.result c.head_at-root_head.result c.as_slice.result.now c.splice-cut.new.self c.head_at-variable_head.ensures c.head_at-root_head.ensures (c.as_slice.ensures.value ∙ c.in_ok-moved.ensures) c.splice-cut.ensures.exchanged
+    c.head_at-variable_head.result c.head_at-root_head.result c.as_slice.result.now c.splice-cut.new.self c.head_at-variable_head.ensures c.head_at-root_head.ensures (subst (AreUsers (bindings_of c.args.parts.now.slots.items) c.args.parts.now.terms.items c.args.v) (sym c.as_slice.ensures) c.in_ok-moved.ensures) c.splice-cut.ensures.exchanged
     (fields c.rebind.new.parts) c.in-Ok-rebind.ensures.ok
 
 pub returns-in-Err-clause-fields_err : goal.returns-in-Err-clause-fields_err
