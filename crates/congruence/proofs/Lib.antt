@@ -6,3 +6,4 @@ pub mod Pairs
 pub mod Shared
 pub mod Standing
 pub mod Starting
+pub mod Turning

@@ -1,5 +1,5 @@
 -- What a turn of the agenda takes, and what it makes wait.
-use Rattle.std.specs.Prelude.{◌≡◌, ◌≢◌, ℕ, ◌<◌, ◌≤◌, ◌+◌, List, [], ◌∷◌, ◌++◌, length, map, slice_index, Contains, Option, Some, None, ◌⊎◌, ◌↔◌}
+use Rattle.std.specs.Prelude.{◌≡◌, ◌≢◌, ℕ, ◌<◌, ◌≤◌, ◌+◌, List, [], ◌∷◌, ◌++◌, length, map, slice_index, Contains, Option, Some, None, cond, nat_eq, ◌⊎◌, ◌↔◌}
 use Rattle.flat_form.specs.declared.atom.Flat.{Flat}
 use Rattle.term_graph.specs.declared.bound.Bound.TheVariants.{Term, Variable}
 use Rattle.term_graph.specs.Contents.{Contents, binding_of, term_at, IsLeader, with_binding}
@@ -36,23 +36,31 @@ IsChoice c a b v w =
     (((v ≡ a) × (w ≡ b)) ⊎ ((v ≡ b) × (w ≡ a)))
     × ((t : ℕ) → binding_of c.bindings v ≡ Term t → (s : ℕ) × (binding_of c.bindings w ≡ Term s))
 
+-- two terms have one symbol, and as many arguments
+abbrev pub HaveOneShape : Contents → ℕ → ℕ → Type 0
+HaveOneShape c t s = ((term_at c.terms t).symbol ≡ (term_at c.terms s).symbol) × (length (term_at c.terms t).args ≡ length (term_at c.terms s).args)
+
 -- both are bound to terms, with different symbols or numbers of arguments
 abbrev pub Differ : Contents → ℕ → ℕ → Type 0
 Differ c v w =
-    (t : ℕ) × (s : ℕ) × (binding_of c.bindings v ≡ Term t) × (binding_of c.bindings w ≡ Term s)
-    × (¬ (((term_at c.terms t).symbol ≡ (term_at c.terms s).symbol) × (length (term_at c.terms t).args ≡ length (term_at c.terms s).args)))
+    (t : ℕ) × (s : ℕ) × (binding_of c.bindings v ≡ Term t) × (binding_of c.bindings w ≡ Term s) × (¬ HaveOneShape c t s)
 
 -- v is bound to no term; or both are, with one symbol and as many arguments, and these wait
 abbrev pub TermsWait : Contents → ℕ → ℕ → List (ℕ × ℕ) → List (ℕ × ℕ) → Type 0
 TermsWait c v w old new =
     (((t : ℕ) → ¬ (binding_of c.bindings v ≡ Term t)) × (new ≡ old))
     ⊎ ((t : ℕ) × (s : ℕ) × (binding_of c.bindings v ≡ Term t) × (binding_of c.bindings w ≡ Term s)
-      × ((term_at c.terms s).symbol ≡ (term_at c.terms t).symbol) × (length (term_at c.terms s).args ≡ length (term_at c.terms t).args)
-      × ArePaired (term_at c.terms s).args (term_at c.terms t).args old new)
+      × HaveOneShape c t s × ArePaired (term_at c.terms s).args (term_at c.terms t).args old new)
 
 -- the least term with what the key of t will be
 abbrev pub IsMet : Contents → ℕ → ℕ → ℕ → Option ℕ → Type 0
 IsMet c v w t o = IsLeader c.bindings c.terms (term_at c.terms t).symbol (map (redirected v w) (map (name c) (term_at c.terms t).args)) o
+
+-- a note of a term that is the least with its key
+pub record IsNoteOf (c : Contents) (v w t : ℕ) (note : Note) : Type 0 where
+  pub is : note.term ≡ t
+  pub leads : Leads c t t
+  pub met : IsMet c v w t note.before
 
 -- of these terms those that are the least with their keys are noted, and no others
 pub record AreNotesOf (c : Contents) (v w : ℕ) (terms : List ℕ) (notes : List Note) : Type 0 where
@@ -68,6 +76,15 @@ pub record AreNotes (c : Contents) (v w : ℕ) (notes : List Note) : Type 0 wher
 
 abbrev pub AreInside : Contents → List Note → Type 0
 AreInside c notes = (note : Note) → Contains notes note → note.term < length c.terms
+
+-- what a noted term makes wait, where this is the least term with its key now
+abbrev pub links_before : ℕ → Option ℕ → List (ℕ × ℕ)
+links_before t None = []
+links_before t (Some o) = (o, t) ∷ []
+
+abbrev pub links_of : Note → Option ℕ → List (ℕ × ℕ)
+links_of note None = []
+links_of note (Some m) = cond (nat_eq m note.term) (links_before note.term note.before) ((note.term, m) ∷ [])
 
 -- the pair is one that a note makes wait
 abbrev pub IsLink : Contents → List Note → ℕ → ℕ → Type 0
@@ -91,6 +108,10 @@ pub record IsMergeStep (old new : Contents) (before after : Agenda) (a b : ℕ) 
   pub notes : List Note
   pub noted : AreNotes old goes stays notes
   pub linked : AreLinked new before.alike after.alike notes
+
+-- v is to be walked through, where it is free and has a mark
+abbrev pub IsWatched : Contents → ℕ → List ℕ → List ℕ → Type 0
+IsWatched c v old new = ((IsFree c v → ¬ IsMarked c v) × (new ≡ old)) ⊎ (IsMarked c v × ((t : ℕ) → ¬ (binding_of c.bindings v ≡ Term t)) × (new ≡ old ++ v ∷ []))
 
 -- what is to be walked through: what was, and each class with a mark that has lost its root
 pub record AreWatched (old new : Contents) (before after : List ℕ) : Type 0 where

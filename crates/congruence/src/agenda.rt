@@ -1,6 +1,6 @@
 // What waits to be joined.
 ghost use Rattle.std.specs.Prelude.{◌≡◌, [], ◌∷◌, ◌++◌, ◌<◌, ◌+◌, length, OnOk, OnErr, MatchOption};
-ghost use Rattle.congruence.specs.Agenda.{idle};
+ghost use Rattle.congruence.specs.Agenda.{idle, owner};
 ghost use Rattle.congruence.specs.Turns.{ArePaired, Takes, AreOwned};
 
 use lists::NoMemory;
@@ -20,6 +20,13 @@ impl Model for Waiting {
     ghost Value = { Agenda };
 
     ghost view = { λ w. record { equal = w.equal.items; alike = w.alike.items } };
+}
+
+fn owners_of(owners: &[usize], t: usize, m: usize) -> (usize, usize)
+    requires { (t < length owners.now) × (m < length owners.now) }
+    ensures { (result.0 ≡ owner owners.now t) × (result.1 ≡ owner owners.now m) }
+{
+    (owners[t], owners[m])
 }
 
 impl Waiting {
@@ -66,7 +73,7 @@ impl Waiting {
         ensures { MatchOption result ((self.old ≡ idle) × (self.new ≡ idle)) (λ pair. Takes owners.now self.old self.new pair.0 pair.1) }
     {
         if let Some((t, m)) = self.alike.pop() {
-            return Some((owners[t], owners[m]));
+            return Some(owners_of(owners, t, m));
         }
         self.equal.pop()
     }

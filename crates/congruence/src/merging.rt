@@ -2,7 +2,7 @@
 ghost use Rattle.std.specs.Prelude.{◌≡◌, ◌≢◌, ℕ, ◌<◌, None, length, IfOk, OnOk, MatchBool, ◌⊎◌};
 ghost use Rattle.term_graph.specs.declared.bound.Bound.TheVariants.{Term};
 ghost use Rattle.term_graph.specs.Contents.{binding_of, target_of, IsGrown};
-ghost use Rattle.congruence.specs.Turns.{IsChoice, Differ, TermsWait, IsMergeStep, AreWatched};
+ghost use Rattle.congruence.specs.Turns.{IsChoice, HaveOneShape, Differ, TermsWait, IsWatched, IsMergeStep, AreWatched};
 
 use crate::agenda::Waiting;
 use crate::noting::{leaders_of, link};
@@ -40,6 +40,14 @@ fn choose(graph: &Graph, a: usize, b: usize) -> (usize, usize)
     }
 }
 
+fn have_one_shape(graph: &Graph, t: usize, s: usize) -> bool
+    requires t_in { t < length graph.now.contents.terms }
+    requires s_in { s < length graph.now.contents.terms }
+    ensures { MatchBool result (HaveOneShape graph.now.contents t s) (¬ HaveOneShape graph.now.contents t s) }
+{
+    graph.symbol(t) == graph.symbol(s) && graph.args(t).len() == graph.args(s).len()
+}
+
 // The arguments of the terms of both wait, where v has one; false where the terms differ.
 fn pair_terms(
     graph: &Graph,
@@ -50,19 +58,29 @@ fn pair_terms(
     requires v_in { v < length graph.now.contents.bindings }
     requires w_in { w < length graph.now.contents.bindings }
     requires chosen { (t : ℕ) → binding_of graph.now.contents.bindings v ≡ Term t → (s : ℕ) × (binding_of graph.now.contents.bindings w ≡ Term s) }
-    ensures alike { waiting.new.alike ≡ waiting.old.alike }
+    ensures alike { IfOk result (λ paired. waiting.new.alike ≡ waiting.old.alike) }
     ensures paired { IfOk result (λ paired. MatchBool paired (TermsWait graph.now.contents v w waiting.old.equal waiting.new.equal) (Differ graph.now.contents v w)) }
 {
     graph.well_formed();
     let (Bound::Term(t), Bound::Term(s)) = (graph.binding(v), graph.binding(w)) else {
         return Ok(true);
     };
-    let (from, to) = (graph.args(t), graph.args(s));
-    if graph.symbol(t) != graph.symbol(s) || from.len() != to.len() {
+    if !have_one_shape(graph, t, s) {
         return Ok(false);
     }
-    waiting.equate_all(to.as_slice(), from.as_slice())?;
+    waiting.equate_all(graph.args(s).as_slice(), graph.args(t).as_slice())?;
     Ok(true)
+}
+
+// The walk begins at v, where it is free and has a mark.
+fn watch(graph: &Graph, starts: &mut Places, v: usize) -> Result<(), NoMemory>
+    requires { v < length graph.now.contents.bindings }
+    ensures { OnOk result (IsWatched graph.now.contents v starts.old starts.new) }
+{
+    if has_term(graph, v) || !graph.finite(v) {
+        return Ok(());
+    }
+    starts.push(v)
 }
 
 // The classes of two roots are made one, unless their terms differ.
@@ -87,9 +105,7 @@ pub(crate) fn merge(
     if !pair_terms(graph, waiting, v, w)? {
         return Ok(false);
     }
-    if graph.finite(v) && !has_term(graph, v) {
-        starts.push(v)?;
-    }
+    watch(graph, starts, v)?;
     let notes = leaders_of(alloc, graph, v, w)?;
     graph.bind(v, Bound::Variable(w))?;
     link(graph, waiting, notes.as_slice())?;
