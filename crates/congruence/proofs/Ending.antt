@@ -1,25 +1,24 @@
 -- Contents where nothing waits are settled.
-use Rattle.std.proofs.Common.{ℕ, ◌<◌, ◌≡◌, true, false, List, [], ◌∷◌, ◌++◌, length, map, refl, sym, ◌∙◌, ap, subst, inl, inr, ◌⊎◌, arith}
-use Rattle.std.specs.Prelude.{Contains, slice_index, slice_index_or}
+use Rattle.std.proofs.Common.{ℕ, ◌<◌, ◌≡◌, List, [], ◌∷◌, ◌++◌, length, map, refl, sym, ◌∙◌, ap, subst, inl, inr, arith}
+use Rattle.std.specs.Prelude.{Contains, slice_index}
 use Rattle.std.proofs.lemmas.List.{length-map}
 use Rattle.std.proofs.lemmas.List.Elements.{Contains-append_left}
 use Rattle.tree_model.specs.declared.tree.Symbol.{Symbol}
 use Rattle.flat_form.specs.declared.atom.Flat.{Flat}
 use Rattle.flat_form.specs.declared.atom.Flat.TheVariants.{VarVar, VarTerm, Finite}
 use Rattle.flat_form.specs.Classes.{Class, itself, Reached, marked, child}
-use Rattle.flat_facts.specs.Names.{IsClosed}
 use Rattle.flat_facts.proofs.Names.{names_classes}
 use Rattle.term_graph.specs.declared.bound.Bound.{Bound}
 use Rattle.term_graph.specs.declared.bound.Bound.TheVariants.{Term}
 use Rattle.term_graph.specs.declared.term.Term.{Term as Made}
 use Rattle.term_graph.specs.Contents.{Contents, binding_of, term_at, root, HasKey}
-use Rattle.settled_facts.specs.Settled.{name, IsFree, IsMarked, IsShaped, HasTermIn, Firm, leaf, node, Follows, IsSettled}
-use Rattle.settled_facts.proofs.Terms.{named_at, named_same, one_term, free_no_term}
+use Rattle.settled_facts.specs.Settled.{name, IsFree, IsMarked, IsShaped, HasTermIn, Firm, leaf, node, IsSettled}
+use Rattle.settled_facts.proofs.Terms.{named_at, one_term, free_no_term}
 use Rattle.settled_facts.proofs.Closing.{closed_by}
-use Rattle.congruence.specs.Agenda.{owner, Pairwise, Agenda, idle, AreAlike, IsBacked, Joins, named, HasTerm, IsSound, IsComplete, IsUnderway}
+use Rattle.congruence.specs.Agenda.{owner, Pairwise, idle, IsBacked, Joins, named, HasTerm, IsUnderway}
 use Rattle.congruence.specs.Ends.{IsMoreMarked, MarksKeepUnderway, MarksKeepFirm, SettlesAgain}
 use Rattle.congruence.proofs.Pairs.{pairwise_as, pairwise_names}
-use Rattle.congruence.proofs.Atoms.{contains_none, before_or_last, idle_named}
+use Rattle.congruence.proofs.Atoms.{before_or_last, idle_named}
 
 -- what a root is bound to, where the bindings and terms are the same
 pub term_same : (old new : Contents) → new.bindings ≡ old.bindings → new.terms ≡ old.terms → (r : ℕ) (s : Symbol) (ys : List ℕ) → HasTermIn old r s ys → HasTermIn new r s ys
@@ -140,11 +139,11 @@ module _ (old new : Contents) (owners : List ℕ) (below : List Flat) (atom : Fl
   firm_stays {r} (node s ys has each) =
       let given = settled.follows.given r s ys has in
       let here : HasTermIn new (name new given.0) s (map (name new) given.1) =
-          held new owners all now_shaped is given.0 s given.1 (Contains-append_left below (atom ∷ []) (VarTerm given.0 s given.1) given.2) in
+      held new owners all now_shaped is given.0 s given.1 (Contains-append_left below (atom ∷ []) (VarTerm given.0 s given.1) given.2) in
       let at_r : name new given.0 ≡ name new r = later given.0 ∙ ap (name new) given.3 in
       let keys : map (name new) given.1 ≡ map (name new) ys = later_all given.1 ∙ ap (map (name new)) given.4 in
       node s (map (name new) ys) (subst (λ ks. HasTermIn new (name new r) s ks) keys (subst (λ z. HasTermIn new z s (map (name new) given.1)) at_r here))
-          (λ i w. let inside : i < length ys = omega (arith, w, length-map ys (name new)) in subst (Firm new) (sym (named_at new ys i inside)) (firm_stays (each i inside)))
+      (λ i w. let inside : i < length ys = omega (arith, w, length-map ys (name new)) in subst (Firm new) (sym (named_at new ys i inside)) (firm_stays (each i inside)))
 
   child_firm : (u : ℕ) (s : Symbol) (xs : List ℕ) → Contains all (VarTerm u s xs) → Firm new (name new u) → (i : ℕ) → i < length xs → Firm new (name new (slice_index xs i))
   child_firm u s xs stands (leaf free mark) i w = absurd (free_no_term new (name new u) s (map (name new) xs) free (held new owners all now_shaped is u s xs stands))

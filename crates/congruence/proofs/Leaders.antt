@@ -1,5 +1,5 @@
 -- Each key that a term has, has a least term.
-use Rattle.std.proofs.Common.{ℕ, zero, suc, ◌<◌, ◌≤◌, ◌≡◌, Bool, true, false, List, length, map, refl, sym, ◌∙◌, ap, subst, inl, inr, ◌⊎◌, Some, arith}
+use Rattle.std.proofs.Common.{ℕ, zero, suc, ◌<◌, ◌≤◌, ◌≡◌, Bool, true, false, List, length, map, refl, sym, ap, subst, inl, inr, ◌⊎◌, Some, arith}
 use Rattle.std.specs.Prelude.{◌&&◌, nat_eq}
 use Rattle.std.specs.Cmp.Lexicographic.{pointwise, bytes_decides}
 use Rattle.std.proofs.lemmas.Bool.{cases_lt, eqb-true, eq-eqb}
@@ -9,7 +9,7 @@ use Rattle.term_graph.specs.declared.bound.Bound.{Bound}
 use Rattle.term_graph.specs.declared.term.Term.{Term as Made}
 use Rattle.term_graph.specs.Keys.{sign_of, is_same_sign}
 use Rattle.term_graph.specs.Contents.{root, term_at, HasKey, IsLeader}
-use Rattle.term_graph.proofs.Keying.{sign_once, true_or_false}
+use Rattle.term_graph.proofs.Keying.{true_or_false}
 
 module _ (p : ℕ → Bool) where
   after_none : (n : ℕ) → ((t : ℕ) → t < n → p t ≡ false) → (t : ℕ) → p t ≡ true → n ≤ t

@@ -1,18 +1,18 @@
 -- What a merge keeps.
-use Rattle.std.proofs.Common.{ℕ, ◌<◌, ◌≡◌, Bool, true, false, List, length, map, refl, sym, ◌∙◌, ap, subst, inl, inr, ◌⊎◌, Some, arith}
-use Rattle.std.specs.Prelude.{nat_eq, Contains, slice_index, slice_index_or}
+use Rattle.std.proofs.Common.{ℕ, ◌<◌, ◌≡◌, true, false, List, length, map, refl, sym, ◌∙◌, ap, subst, inl, inr}
+use Rattle.std.specs.Prelude.{nat_eq, Contains, slice_index_or}
 use Rattle.std.proofs.lemmas.Bool.{eq-eqb, cases_eq, ne_eqb}
 use lib.Dec.{eqb}
 use Rattle.tree_model.specs.declared.tree.Symbol.{Symbol}
 use Rattle.flat_form.specs.declared.atom.Flat.{Flat}
 use Rattle.flat_form.specs.declared.atom.Flat.TheVariants.{VarTerm}
-use Rattle.flat_form.specs.Classes.{Class, turned, joined, outward, Reached}
+use Rattle.flat_form.specs.Classes.{Class, turned, joined, outward}
 use Rattle.term_graph.specs.declared.bound.Bound.TheVariants.{Term}
 use Rattle.term_graph.specs.Contents.{Contents, binding_of, term_at}
-use Rattle.settled_facts.specs.Settled.{name, IsFree, IsMarked, HasTermIn, Follows}
+use Rattle.settled_facts.specs.Settled.{name, Follows}
 use Rattle.settled_facts.proofs.Terms.{named_class, name_term, name_bound}
-use Rattle.congruence.specs.Agenda.{owner, Pairwise, Agenda, AreAlike, IsBacked, Joins, named, back, through, equated, congruent, HasTerm, IsSound, IsComplete, IsUnderway}
-use Rattle.congruence.specs.Merges.{redirected, IsMerged, AreKept, IsNoted, IsAgendaSound, MergeKeeps, AgendaMoves, AlikeIsSound}
+use Rattle.congruence.specs.Agenda.{owner, Pairwise, Agenda, AreAlike, IsBacked, Joins, named, back, through, equated, congruent, HasTerm, IsSound}
+use Rattle.congruence.specs.Merges.{redirected, IsMerged, AreKept, IsNoted, MergeKeeps, AgendaMoves, AlikeIsSound}
 use Rattle.congruence.proofs.Pairs.{pairwise_as, pairwise_back, pairwise_through, names_pairwise}
 use Rattle.congruence.proofs.Shared.{shared_merged, new_names}
 
@@ -30,14 +30,14 @@ module _ (c : Contents) (owners : List ℕ) (a : Agenda) (atoms : List Flat) (so
       let one = sound.terms t is.left in
       let other = sound.terms m is.right in
       let between : Pairwise (Class atoms) (term_at c.terms t).args (term_at c.terms m).args =
-          pairwise_as (λ u v. name c u ≡ name c v) (Class atoms) (term_at c.terms t).args (term_at c.terms m).args (named_class c atoms sound.follows)
-          (names_pairwise c (term_at c.terms t).args (term_at c.terms m).args is.args) in
+      pairwise_as (λ u v. name c u ≡ name c v) (Class atoms) (term_at c.terms t).args (term_at c.terms m).args (named_class c atoms sound.follows)
+      (names_pairwise c (term_at c.terms t).args (term_at c.terms m).args is.args) in
       let args : Pairwise (Class atoms) one.right other.right =
-          pairwise_through (Class atoms) one.right (term_at c.terms t).args other.right (λ u v w. joined) one.args
-          (pairwise_through (Class atoms) (term_at c.terms t).args (term_at c.terms m).args other.right (λ u v w. joined) between
-          (pairwise_back (Class atoms) other.right (term_at c.terms m).args (λ u v. turned) other.args)) in
+      pairwise_through (Class atoms) one.right (term_at c.terms t).args other.right (λ u v w. joined) one.args
+      (pairwise_through (Class atoms) (term_at c.terms t).args (term_at c.terms m).args other.right (λ u v w. joined) between
+      (pairwise_back (Class atoms) other.right (term_at c.terms m).args (λ u v. turned) other.args)) in
       let stands : Contains atoms (VarTerm other.left (term_at c.terms t).symbol other.right) =
-          subst (λ (s : Symbol). Contains atoms (VarTerm other.left s other.right)) (sym is.sign) other.stands in
+      subst (λ (s : Symbol). Contains atoms (VarTerm other.left s other.right)) (sym is.sign) other.stands in
       joined (turned one.equal) (joined (outward (term_at c.terms t).symbol one.right other.right one.stands stands args.0 args.1) other.equal)
 
 pub alike_sound : AlikeIsSound
@@ -79,7 +79,7 @@ module _ (v w : ℕ) (old new : Contents) (merged : IsMerged v w old new) where
   stayed : (x : ℕ) → ¬ (name old x ≡ v) → name new x ≡ name old x
   stayed x other = merged.names x ∙ (let different : nat_eq (name old x) v ≡ false = ne_eqb (name old x) v other in rw different refl)
 
-  follows_kept : (atoms : List Flat) → Class atoms v w → Follows old atoms → Follows new atoms
+  pub follows_kept : (atoms : List Flat) → Class atoms v w → Follows old atoms → Follows new atoms
   follows_kept atoms one follows = record {
     sound = λ u. elim (cases_eq (name old u) v) [
       | inl e ↦ subst (Class atoms u) (sym (moved u e)) (joined (follows.sound u) (subst (λ z. Class atoms z w) (sym e) one))
@@ -94,9 +94,13 @@ module _ (v w : ℕ) (old new : Contents) (merged : IsMerged v w old new) where
           bound = bound.1;
           key = record { within = within; sign = ap (λ z. (term_at z has.term).symbol) (sym merged.terms) ∙ has.key.sign; args = refl };
         }) in
-        let now : map (name new) args ≡ ys = ap (λ z. map (name new) (term_at z has.term).args) (sym merged.terms) ∙ has.key.args in
-        (given.0, given.1, given.2, same_name given.0 r (given.3 ∙ sym (name_bound old r has.term bound.1)) ∙ name_term new r symbol ys has,
-          new_names v w old new merged given.1 ∙ ap (map (redirected v w)) given.4 ∙ sym (new_names v w old new merged args) ∙ now);
+        let now : map (name new) args ≡ ys = ap (λ z. map (name new) (term_at z has.term).args) (sym merged.terms) ∙ has.key.args in (
+          given.0,
+          given.1,
+          given.2,
+          same_name given.0 r (given.3 ∙ sym (name_bound old r has.term bound.1)) ∙ name_term new r symbol ys has,
+          new_names v w old new merged given.1 ∙ ap (map (redirected v w)) given.4 ∙ sym (new_names v w old new merged args) ∙ now,
+        );
     marked = λ r free is. follows.marked r (merged.free r free) (subst (λ z. slice_index_or z r false ≡ true) merged.marks is);
   }
 
@@ -106,18 +110,18 @@ module _ (v w : ℕ) (old new : Contents) (merged : IsMerged v w old new) where
         let joins : Joins new owners after has.of x = lifted old new owners before after same_name kept has.joins in
         let args : Pairwise (Joins new owners after) (term_at old.terms has.term).args xs = lifted_args old new owners before after same_name kept (term_at old.terms has.term).args xs has.args in
         elim (cases_eq (name old has.of) v) [
-        | inl e ↦
-          let lost = noted.lost has.term (subst (λ z. binding_of old.bindings z ≡ Term has.term) e has.bound) in
-          let gone : name new w ≡ name new has.of = merged.names w ∙ ap (redirected v w) merged.at_root ∙ (let other : nat_eq w v ≡ false = ne_eqb w v merged.apart in rw other refl) ∙ sym (moved has.of e) in
-          record {
-            of = lost.of;
-            joins = through lost.joins (through (named gone) joins);
-            term = lost.term;
-            bound = lost.bound;
-            sign = lost.sign ∙ has.sign;
-            args = pairwise_through (Joins new owners after) (term_at new.terms lost.term).args (term_at old.terms has.term).args xs (λ p q r. through) lost.args args;
-          }
-        | inr other ↦ record {
+          | inl e ↦
+              let lost = noted.lost has.term (subst (λ z. binding_of old.bindings z ≡ Term has.term) e has.bound) in
+              let gone : name new w ≡ name new has.of = merged.names w ∙ ap (redirected v w) merged.at_root ∙ (let other : nat_eq w v ≡ false = ne_eqb w v merged.apart in rw other refl) ∙ sym (moved has.of e) in
+              record {
+                of = lost.of;
+                joins = through lost.joins (through (named gone) joins);
+                term = lost.term;
+                bound = lost.bound;
+                sign = lost.sign ∙ has.sign;
+                args = pairwise_through (Joins new owners after) (term_at new.terms lost.term).args (term_at old.terms has.term).args xs (λ p q r. through) lost.args args;
+              }
+          | inr other ↦ record {
             of = has.of;
             joins = joins;
             term = has.term;

@@ -1,5 +1,5 @@
 -- Lists that are related place by place.
-use Rattle.std.proofs.Common.{ℕ, ◌<◌, ◌≡◌, List, length, map, sym, ◌∙◌, ap, arith, subst, refl}
+use Rattle.std.proofs.Common.{ℕ, ◌≡◌, List, length, map, sym, ◌∙◌, ap, arith, refl}
 use Rattle.std.specs.Prelude.{slice_index}
 use Rattle.std.proofs.lemmas.List.{length-map}
 use Rattle.term_graph.specs.Contents.{Contents}

@@ -1,12 +1,12 @@
 -- Terms with one key after a merge have one class, once what waits is joined.
 use Rattle.std.proofs.Common.{ℕ, ◌<◌, ◌≤◌, ◌≡◌, false, List, [], ◌∷◌, length, map, refl, sym, ◌∙◌, ap, subst, inl, inr, ◌⊎◌, Some, arith}
 use Rattle.std.specs.Prelude.{Contains, nat_eq}
-use Rattle.std.proofs.lemmas.Bool.{eq-eqb, cases_eq, ne_eqb}
+use Rattle.std.proofs.lemmas.Bool.{cases_eq, ne_eqb}
 use lib.Dec.{eqb}
 use Rattle.tree_model.specs.declared.tree.Symbol.{Symbol}
 use Rattle.tree_facts.proofs.Members.{contains_first, contains_later, contains_cases}
 use Rattle.flat_form.specs.declared.atom.Flat.{Flat}
-use Rattle.term_graph.specs.Contents.{Contents, term_at, HasKey, IsLeader, root}
+use Rattle.term_graph.specs.Contents.{Contents, term_at, IsLeader}
 use Rattle.settled_facts.specs.Settled.{name}
 use Rattle.congruence.specs.Agenda.{owner, Agenda, Joins, named, back, through, AreAlike, IsComplete}
 use Rattle.congruence.specs.Merges.{redirected, Leads, IsMerged, IsNoted}
@@ -68,28 +68,31 @@ module _ (v w : ℕ) (old new : Contents) (merged : IsMerged v w old new) where
     led_on l m leads within foremost = elim (contained_or_not v (key old l)) [
       | inl mentions ↦ noted.led l m (within, mentions, leads) (leads_now l m foremost)
       | inr none ↦
-        let same : key new l ≡ key old l = key_kept l none in
-        let same_sign : sign m ≡ sign l = foremost.0.sign in
-        let same_key : key new m ≡ key new l = foremost.0.args in
-        elim (contained_or_not v (key old m)) [
-        | inl mentions ↦
-          let own : Leads old m m = (record { within = foremost.0.within; sign = refl; args = refl }, λ u has. foremost.1 u (record {
-            within = has.within;
-            sign = has.sign ∙ same_sign;
-            args = new_names (term_at old.terms u).args ∙ ap (map (redirected v w)) has.args ∙ sym (new_names (term_at old.terms m).args) ∙ same_key;
-          })) in
-          let first : Foremost (sign m) (key new m) m = subst (λ s. Foremost s (key new m) m) (sym same_sign) (subst (λ ks. Foremost (sign l) ks m) (sym same_key) foremost) in
-          let asked : map (redirected v w) (key old m) ≡ key old l = sym (new_names (term_at old.terms m).args) ∙ same_key ∙ same in
-          let was : IsLeader old.bindings old.terms (sign m) (map (redirected v w) (key old m)) (Some l) =
-              subst (λ s. IsLeader old.bindings old.terms s (map (redirected v w) (key old m)) (Some l)) (sym same_sign) (subst (λ ks. IsLeader old.bindings old.terms (sign l) ks (Some l)) (sym asked) leads) in
-          noted.taken m l (foremost.0.within, mentions, own) (leads_now m m first) was
-        | inr free ↦
-          let stays : key old m ≡ key old l = sym (key_kept m free) ∙ same_key ∙ same in
-          let low : l ≤ m = leads.1 m (record { within = foremost.0.within; sign = same_sign; args = stays }) in
-          let high : m ≤ l = foremost.1 l (record { within = within; sign = refl; args = refl }) in
-          let one : l ≡ m = omega arith in
-          named (ap (λ z. name new (owner owners z)) one)
-        ]
+          let same : key new l ≡ key old l = key_kept l none in
+          let same_sign : sign m ≡ sign l = foremost.0.sign in
+          let same_key : key new m ≡ key new l = foremost.0.args in
+          elim (contained_or_not v (key old m)) [
+            | inl mentions ↦
+                let own : Leads old m m = (
+                  record { within = foremost.0.within; sign = refl; args = refl },
+                  λ u has. foremost.1 u (record {
+                    within = has.within;
+                    sign = has.sign ∙ same_sign;
+                    args = new_names (term_at old.terms u).args ∙ ap (map (redirected v w)) has.args ∙ sym (new_names (term_at old.terms m).args) ∙ same_key;
+                  }),
+                ) in
+                let first : Foremost (sign m) (key new m) m = subst (λ s. Foremost s (key new m) m) (sym same_sign) (subst (λ ks. Foremost (sign l) ks m) (sym same_key) foremost) in
+                let asked : map (redirected v w) (key old m) ≡ key old l = sym (new_names (term_at old.terms m).args) ∙ same_key ∙ same in
+                let was : IsLeader old.bindings old.terms (sign m) (map (redirected v w) (key old m)) (Some l) =
+                subst (λ s. IsLeader old.bindings old.terms s (map (redirected v w) (key old m)) (Some l)) (sym same_sign) (subst (λ ks. IsLeader old.bindings old.terms (sign l) ks (Some l)) (sym asked) leads) in
+                noted.taken m l (foremost.0.within, mentions, own) (leads_now m m first) was
+            | inr free ↦
+                let stays : key old m ≡ key old l = sym (key_kept m free) ∙ same_key ∙ same in
+                let low : l ≤ m = leads.1 m (record { within = foremost.0.within; sign = same_sign; args = stays }) in
+                let high : m ≤ l = foremost.1 l (record { within = within; sign = refl; args = refl }) in
+                let one : l ≡ m = omega arith in
+                named (ap (λ z. name new (owner owners z)) one)
+          ]
     ]
 
     joins_foremost : (t m : ℕ) → t < length old.terms → Foremost (sign t) (key new t) m → Joins new owners after (owner owners t) (owner owners m)
@@ -97,7 +100,7 @@ module _ (v w : ℕ) (old new : Contents) (merged : IsMerged v w old new) where
         let (l, leads) = leader_exists old.bindings old.terms (sign t) (key old t) t (record { within = within; sign = refl; args = refl }) in
         let same_key : key new l ≡ key new t = new_names (term_at old.terms l).args ∙ ap (map (redirected v w)) leads.0.args ∙ sym (new_names (term_at old.terms t).args) in
         let own : Leads old l l = subst (λ s. IsLeader old.bindings old.terms s (key old l) (Some l)) (sym leads.0.sign)
-            (subst (λ ks. IsLeader old.bindings old.terms (sign t) ks (Some l)) (sym leads.0.args) leads) in
+        (subst (λ ks. IsLeader old.bindings old.terms (sign t) ks (Some l)) (sym leads.0.args) leads) in
         let first : Foremost (sign l) (key new l) m = subst (λ s. Foremost s (key new l) m) (sym leads.0.sign) (subst (λ ks. Foremost (sign t) ks m) (sym same_key) foremost) in
         through (lifted (owner owners t) (owner owners l) (is.shared t l (record { left = within; right = leads.0.within; sign = sym leads.0.sign; args = sym leads.0.args }))) (led_on l m own leads.0.within first)
 

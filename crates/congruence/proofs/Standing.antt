@@ -1,6 +1,6 @@
 -- A new term stands for the atom that it is of.
-use Rattle.std.proofs.Common.{ℕ, ◌<◌, ◌≤◌, ◌≡◌, ◌≢◌, Bool, true, false, List, [], ◌∷◌, ◌++◌, length, map, get_or, refl, sym, ◌∙◌, ap, subst, inl, inr, ◌⊎◌, arith, get_or-set_same, get_or-set_other}
-use Rattle.std.specs.Prelude.{Contains, slice_index, slice_index_or, slice_set, Some, None}
+use Rattle.std.proofs.Common.{ℕ, ◌<◌, ◌≡◌, ◌≢◌, List, [], ◌∷◌, ◌++◌, length, map, refl, sym, ◌∙◌, ap, subst, inl, inr, ◌⊎◌, arith}
+use Rattle.std.specs.Prelude.{Contains, slice_index, None}
 use Rattle.std.proofs.lemmas.Bool.{cases_eq, cases_lt}
 use Rattle.std.proofs.lemmas.List.{length-map, get_or_append_left, get_or_push, length_push}
 use Rattle.std.proofs.lemmas.List.Elements.{Contains-append_left}
@@ -8,20 +8,19 @@ use Rattle.tree_model.specs.declared.tree.Symbol.{Symbol}
 use Rattle.tree_facts.proofs.Renumbering.{contains_image}
 use Rattle.flat_form.specs.declared.atom.Flat.{Flat}
 use Rattle.flat_form.specs.declared.atom.Flat.TheVariants.{VarVar, VarTerm, Finite}
-use Rattle.flat_form.specs.Classes.{Class, turned, joined, Reached}
-use Rattle.term_graph.specs.declared.bound.Bound.{Bound}
+use Rattle.flat_form.specs.Classes.{Class}
 use Rattle.term_graph.specs.declared.bound.Bound.TheVariants.{Free, Term}
 use Rattle.term_graph.specs.declared.term.Term.{Term as Made}
-use Rattle.term_graph.specs.Contents.{Contents, binding_of, term_at, no_term, root, IsLeader, with_term, with_binding}
-use Rattle.settled_facts.specs.Settled.{name, IsFree, IsMarked, IsShaped, HasTermIn, Follows}
+use Rattle.term_graph.specs.Contents.{Contents, binding_of, term_at, no_term, IsLeader, with_term, with_binding}
+use Rattle.settled_facts.specs.Settled.{name, IsFree, IsShaped, HasTermIn, Follows}
 use Rattle.settled_facts.specs.Changes.{IsTerming, IsInterning, interned}
 use Rattle.settled_facts.proofs.Changing.{change_shape, term_names, term_other, term_bound}
 use Rattle.settled_facts.proofs.ReadOff.{name_within}
-use Rattle.settled_facts.proofs.Terms.{named_at, named_same, named_class, name_twice, name_bound}
-use Rattle.congruence.specs.Agenda.{owner, Pairwise, Agenda, idle, AreAlike, IsBacked, Joins, named, back, through, HasTerm, IsSound, IsComplete, IsUnderway}
+use Rattle.settled_facts.proofs.Terms.{named_at, named_same, name_twice}
+use Rattle.congruence.specs.Agenda.{owner, Pairwise, idle, AreAlike, IsBacked, Joins, named, HasTerm, IsUnderway}
 use Rattle.congruence.specs.Starts.{TermStands}
 use Rattle.congruence.proofs.Pairs.{pairwise_as}
-use Rattle.congruence.proofs.Atoms.{contains_none, contains_last, before_or_last, class_as, reached_as, idle_named}
+use Rattle.congruence.proofs.Atoms.{contains_none, contains_last, before_or_last, idle_named}
 use Rattle.congruence.proofs.Starting.{follows_more, backed_more}
 
 -- what an atom with a term on its right says
@@ -157,30 +156,37 @@ module _ (c : Contents) (owners : List ℕ) (atoms : List Flat) (u : ℕ) (symbo
   }
 
   keys_named : Pairwise (λ p q. name c p ≡ name c q) keys xs
-  keys_named = (length-map xs (name c), λ i w. let here : i < length xs = omega (arith, w, length-map xs (name c)) in
-      ap (name c) (named_at c xs i here) ∙ name_twice c shaped (slice_index xs i))
+  keys_named = (
+    length-map xs (name c),
+    λ i w. let here : i < length xs = omega (arith, w, length-map xs (name c)) in
+        ap (name c) (named_at c xs i here) ∙ name_twice c shaped (slice_index xs i),
+  )
 
   given_now : (q : ℕ) (s : Symbol) (ys : List ℕ) → HasTermIn new q s ys
       → (v : ℕ) × (zs : List ℕ) × Contains all (VarTerm v s zs) × (name new v ≡ q) × (map (name new) zs ≡ ys)
   given_now q s ys has = elim (bound_was q has.term has.bound) [
     | inl (e, f) ↦
-      let it : term_at new.terms has.term ≡ made = ap (term_at new.terms) f ∙ new_term in
-      let sign : symbol ≡ s = sym (ap (λ (z : Made). z.symbol) it) ∙ has.key.sign in
-      let args : map (name new) keys ≡ ys = sym (ap (λ (z : Made). map (name new) z.args) it) ∙ has.key.args in
-      (u, xs, subst (λ (z : Symbol). Contains all (VarTerm u z xs)) sign (contains_last atoms (VarTerm u symbol xs)), names u ∙ sym e,
-        names_all xs ∙ sym twice ∙ sym (names_all keys) ∙ args)
+        let it : term_at new.terms has.term ≡ made = ap (term_at new.terms) f ∙ new_term in
+        let sign : symbol ≡ s = sym (ap (λ (z : Made). z.symbol) it) ∙ has.key.sign in
+        let args : map (name new) keys ≡ ys = sym (ap (λ (z : Made). map (name new) z.args) it) ∙ has.key.args in (
+          u,
+          xs,
+          subst (λ (z : Symbol). Contains all (VarTerm u z xs)) sign (contains_last atoms (VarTerm u symbol xs)),
+          names u ∙ sym e,
+          names_all xs ∙ sym twice ∙ sym (names_all keys) ∙ args,
+        )
     | inr (other, bound) ↦
-      let within : has.term < n = shaped.bound q has.term bound in
-      let given = follows.given q s ys (record {
-        term = has.term;
-        bound = bound;
-        key = record {
-          within = within;
-          sign = ap (λ (z : Made). z.symbol) (sym (old_term has.term within)) ∙ has.key.sign;
-          args = sym (names_all (term_at c.terms has.term).args) ∙ ap (λ (z : Made). map (name new) z.args) (sym (old_term has.term within)) ∙ has.key.args;
-        };
-      }) in
-      (given.0, given.1, given.2, names given.0 ∙ given.3, names_all given.1 ∙ given.4)
+        let within : has.term < n = shaped.bound q has.term bound in
+        let given = follows.given q s ys (record {
+          term = has.term;
+          bound = bound;
+          key = record {
+            within = within;
+            sign = ap (λ (z : Made). z.symbol) (sym (old_term has.term within)) ∙ has.key.sign;
+            args = sym (names_all (term_at c.terms has.term).args) ∙ ap (λ (z : Made). map (name new) z.args) (sym (old_term has.term within)) ∙ has.key.args;
+          };
+        }) in
+        (given.0, given.1, given.2, names given.0 ∙ given.3, names_all given.1 ∙ given.4)
   ]
 
   -- a new term has a key of its own
@@ -196,7 +202,7 @@ module _ (c : Contents) (owners : List ℕ) (atoms : List Flat) (u : ℕ) (symbo
   shared_now : (t m : ℕ) → AreAlike new t m → ((t < n) ⊎ (t ≡ n)) → ((m < n) ⊎ (m ≡ n)) → Joins new owners_now idle (owner owners_now t) (owner owners_now m)
   shared_now t m alike (inl v) (inl w) =
       let keys_before : map (name c) (term_at c.terms t).args ≡ map (name c) (term_at c.terms m).args =
-          sym (names_all (term_at c.terms t).args) ∙ args_between t m (term_at c.terms t) (term_at c.terms m) (old_term t v) (old_term m w) alike ∙ names_all (term_at c.terms m).args in
+      sym (names_all (term_at c.terms t).args) ∙ args_between t m (term_at c.terms t) (term_at c.terms m) (old_term t v) (old_term m w) alike ∙ names_all (term_at c.terms m).args in
       let one : Joins new owners_now idle (owner owners t) (owner owners m) = lifted (is.1.shared t m (record {
         left = v;
         right = w;

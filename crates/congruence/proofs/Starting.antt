@@ -1,21 +1,19 @@
 -- What an atom more makes wait.
-use Rattle.std.proofs.Common.{ℕ, ◌<◌, ◌≡◌, List, [], ◌∷◌, ◌++◌, length, map, refl, sym, ◌∙◌, ap, subst, inl, inr, ◌⊎◌, Some, arith}
+use Rattle.std.proofs.Common.{ℕ, ◌<◌, ◌≡◌, List, [], ◌∷◌, ◌++◌, length, map, refl, sym, ◌∙◌, subst, inl, inr, arith}
 use Rattle.std.specs.Prelude.{Contains, slice_index}
-use Rattle.std.proofs.lemmas.List.{length-map}
 use Rattle.std.proofs.lemmas.List.Elements.{Contains-append_left}
 use Rattle.tree_model.specs.declared.tree.Symbol.{Symbol}
 use Rattle.tree_facts.proofs.Members.{contains_first, contains_cases}
 use Rattle.flat_form.specs.declared.atom.Flat.{Flat}
-use Rattle.flat_form.specs.declared.atom.Flat.TheVariants.{VarVar, VarTerm, Finite}
+use Rattle.flat_form.specs.declared.atom.Flat.TheVariants.{VarVar, VarTerm}
 use Rattle.flat_form.specs.Classes.{Class, turned, joined, stated, inward, outward}
-use Rattle.term_graph.specs.declared.bound.Bound.TheVariants.{Term}
-use Rattle.term_graph.specs.Contents.{Contents, binding_of, term_at, IsLeader}
+use Rattle.term_graph.specs.Contents.{Contents, term_at}
 use Rattle.settled_facts.specs.Settled.{name, IsShaped, HasTermIn, Follows, IsSettled}
 use Rattle.settled_facts.proofs.Terms.{named_class, name_twice}
-use Rattle.congruence.specs.Agenda.{owner, Pairwise, Agenda, idle, AreAlike, IsBacked, Joins, named, back, through, equated, congruent, HasTerm, IsSound, IsComplete, IsUnderway}
+use Rattle.congruence.specs.Agenda.{owner, Pairwise, Agenda, idle, IsBacked, Joins, named, back, through, equated, HasTerm, IsUnderway}
 use Rattle.congruence.specs.Merges.{AreKept, IsAgendaSound}
 use Rattle.congruence.specs.Starts.{IsHeeded, SettledIsUnderway, AtomWaits, EquationWaits, ArgumentsWait, OwnerWaits}
-use Rattle.congruence.proofs.Pairs.{pairwise_as, pairwise_back, pairwise_through, pairwise_itself, names_pairwise, pairwise_names}
+use Rattle.congruence.proofs.Pairs.{pairwise_as, pairwise_back, pairwise_through, names_pairwise}
 use Rattle.congruence.proofs.Atoms.{contains_none, contains_last, before_or_last, class_as, reached_as}
 use Rattle.congruence.proofs.Merged.{lifted, lifted_args}
 
@@ -56,12 +54,12 @@ module _ (c : Contents) (owners : List ℕ) (atoms : List Flat) (shaped : IsShap
       owned = λ t within. holds_term (owner owners t) (term_at c.terms t).symbol (term_at c.terms t).args (term_owned t within);
       shared = λ t m is.
           let has : HasTermIn c (name c (owner owners m)) (term_at c.terms t).symbol (map (name c) (term_at c.terms t).args) =
-              settled.owned m (term_at c.terms t).symbol (map (name c) (term_at c.terms t).args) (record { within = is.right; sign = sym is.sign; args = sym is.args }) in
+          settled.owned m (term_at c.terms t).symbol (map (name c) (term_at c.terms t).args) (record { within = is.right; sign = sym is.sign; args = sym is.args }) in
           named (settled.apart (name c (owner owners t)) (name c (owner owners m)) (term_at c.terms t).symbol (map (name c) (term_at c.terms t).args) (term_owned t is.left) has);
       live = λ r t bound.
           let within : t < length c.terms = shaped.bound r t bound in
           settled.apart (name c (owner owners t)) r (term_at c.terms t).symbol (map (name c) (term_at c.terms t).args) (term_owned t within)
-              (record { term = t; bound = bound; key = record { within = within; sign = refl; args = refl } });
+          (record { term = t; bound = bound; key = record { within = within; sign = refl; args = refl } });
     },
   )
 
@@ -144,8 +142,8 @@ pair_only u v x y R holds inside = elim (contains_cases (u, v) (x, y) [] inside)
 pub equation_waits : EquationWaits
 equation_waits c owners atoms u v is =
     atom_waits c owners (record { equal = (u, v) ∷ []; alike = [] }) atoms (VarVar u v) is
-        (no_terms c owners ((u, v) ∷ []) (atoms ++ VarVar u v ∷ []) (λ x y inside. pair_only u v x y (Class (atoms ++ VarVar u v ∷ [])) (stated (contains_last atoms (VarVar u v))) inside))
-        (equated (contains_first (u, v) []))
+    (no_terms c owners ((u, v) ∷ []) (atoms ++ VarVar u v ∷ []) (λ x y inside. pair_only u v x y (Class (atoms ++ VarVar u v ∷ [])) (stated (contains_last atoms (VarVar u v))) inside))
+    (equated (contains_first (u, v) []))
 
 pub arguments_wait : ArgumentsWait
 arguments_wait c owners atoms u t symbol xs pairs shaped bound sign len paired is =
@@ -154,52 +152,52 @@ arguments_wait c owners atoms u t symbol xs pairs shaped bound sign len paired i
     let given = follows.given (name c u) symbol (map (name c) args) (record { term = t; bound = bound; key = record { within = shaped.bound (name c u) t bound; sign = sign; args = refl } }) in
     let left : Class (atoms ++ VarTerm u symbol xs ∷ []) given.0 u = named_class c (atoms ++ VarTerm u symbol xs ∷ []) follows given.0 u given.3 in
     let right : Pairwise (Class (atoms ++ VarTerm u symbol xs ∷ [])) given.1 args =
-        pairwise_as (λ p q. name c p ≡ name c q) (Class (atoms ++ VarTerm u symbol xs ∷ [])) given.1 args (named_class c (atoms ++ VarTerm u symbol xs ∷ []) follows) (names_pairwise c given.1 args given.4) in
+    pairwise_as (λ p q. name c p ≡ name c q) (Class (atoms ++ VarTerm u symbol xs ∷ [])) given.1 args (named_class c (atoms ++ VarTerm u symbol xs ∷ []) follows) (names_pairwise c given.1 args given.4) in
     atom_waits c owners (record { equal = pairs; alike = [] }) atoms (VarTerm u symbol xs) is
-        (no_terms c owners pairs (atoms ++ VarTerm u symbol xs ∷ []) (λ x y inside. elim ((paired x y).0 inside) [
-          | inl none ↦ absurd (contains_none (x, y) none)
-          | inr (i, w, e, f) ↦
-            let here : i < length given.1 = omega (arith, w, right.0) in
-            let one : Class (atoms ++ VarTerm u symbol xs ∷ []) (slice_index args i) (slice_index xs i) =
-                joined (turned (right.1 i here)) (inward symbol given.1 xs given.2 (contains_last atoms (VarTerm u symbol xs)) (right.0 ∙ len) left i here) in
-            subst (λ z. Class (atoms ++ VarTerm u symbol xs ∷ []) z y) e (subst (λ z. Class (atoms ++ VarTerm u symbol xs ∷ []) (slice_index args i) z) f one)
-        ]))
-        (record {
-          of = u;
-          joins = named refl;
-          term = t;
-          bound = bound;
-          sign = sign;
-          args = (len, λ i w. equated ((paired (slice_index args i) (slice_index xs i)).1 (inr (i, w, refl, refl))));
-        })
+    (no_terms c owners pairs (atoms ++ VarTerm u symbol xs ∷ []) (λ x y inside. elim ((paired x y).0 inside) [
+      | inl none ↦ absurd (contains_none (x, y) none)
+      | inr (i, w, e, f) ↦
+          let here : i < length given.1 = omega (arith, w, right.0) in
+          let one : Class (atoms ++ VarTerm u symbol xs ∷ []) (slice_index args i) (slice_index xs i) =
+          joined (turned (right.1 i here)) (inward symbol given.1 xs given.2 (contains_last atoms (VarTerm u symbol xs)) (right.0 ∙ len) left i here) in
+          subst (λ z. Class (atoms ++ VarTerm u symbol xs ∷ []) z y) e (subst (λ z. Class (atoms ++ VarTerm u symbol xs ∷ []) (slice_index args i) z) f one)
+    ]))
+    (record {
+      of = u;
+      joins = named refl;
+      term = t;
+      bound = bound;
+      sign = sign;
+      args = (len, λ i w. equated ((paired (slice_index args i) (slice_index xs i)).1 (inr (i, w, refl, refl))));
+    })
 
 pub owner_waits : OwnerWaits
 owner_waits c owners atoms u t symbol xs shaped leads is =
     let args : List ℕ = (term_at c.terms t).args in
     let follows : Follows c (atoms ++ VarTerm u symbol xs ∷ []) = follows_more c atoms (VarTerm u symbol xs) is.0.follows in
     let backed : IsBacked (atoms ++ VarTerm u symbol xs ∷ []) (owner owners t) (term_at c.terms t).symbol args =
-        backed_more atoms (VarTerm u symbol xs) (owner owners t) (term_at c.terms t).symbol args (is.0.terms t leads.0.within) in
+    backed_more atoms (VarTerm u symbol xs) (owner owners t) (term_at c.terms t).symbol args (is.0.terms t leads.0.within) in
     let names : Pairwise (λ p q. name c p ≡ name c q) args xs = names_pairwise c args xs leads.0.args in
     let right : Pairwise (Class (atoms ++ VarTerm u symbol xs ∷ [])) xs backed.right =
-        pairwise_back (Class (atoms ++ VarTerm u symbol xs ∷ [])) backed.right xs (λ p q. turned)
-        (pairwise_through (Class (atoms ++ VarTerm u symbol xs ∷ [])) backed.right args xs (λ p q r. joined) backed.args
-        (pairwise_as (λ p q. name c p ≡ name c q) (Class (atoms ++ VarTerm u symbol xs ∷ [])) args xs (named_class c (atoms ++ VarTerm u symbol xs ∷ []) follows) names)) in
+    pairwise_back (Class (atoms ++ VarTerm u symbol xs ∷ [])) backed.right xs (λ p q. turned)
+    (pairwise_through (Class (atoms ++ VarTerm u symbol xs ∷ [])) backed.right args xs (λ p q r. joined) backed.args
+    (pairwise_as (λ p q. name c p ≡ name c q) (Class (atoms ++ VarTerm u symbol xs ∷ [])) args xs (named_class c (atoms ++ VarTerm u symbol xs ∷ []) follows) names)) in
     let stands : Contains (atoms ++ VarTerm u symbol xs ∷ []) (VarTerm backed.left symbol backed.right) =
-        subst (λ (s : Symbol). Contains (atoms ++ VarTerm u symbol xs ∷ []) (VarTerm backed.left s backed.right)) leads.0.sign backed.stands in
+    subst (λ (s : Symbol). Contains (atoms ++ VarTerm u symbol xs ∷ []) (VarTerm backed.left s backed.right)) leads.0.sign backed.stands in
     let one : Class (atoms ++ VarTerm u symbol xs ∷ []) (name c u) (owner owners t) =
-        joined (turned (follows.sound u)) (joined (outward symbol xs backed.right (contains_last atoms (VarTerm u symbol xs)) stands right.0 right.1) backed.equal) in
+    joined (turned (follows.sound u)) (joined (outward symbol xs backed.right (contains_last atoms (VarTerm u symbol xs)) stands right.0 right.1) backed.equal) in
     let has : HasTerm c owners idle (owner owners t) (term_at c.terms t).symbol args = is.1.owned t leads.0.within in
     let waits : HasTerm c owners (record { equal = (name c u, owner owners t) ∷ []; alike = [] }) (owner owners t) (term_at c.terms t).symbol args =
-        waits_too c owners (record { equal = (name c u, owner owners t) ∷ []; alike = [] }) (owner owners t) (term_at c.terms t).symbol args has in
+    waits_too c owners (record { equal = (name c u, owner owners t) ∷ []; alike = [] }) (owner owners t) (term_at c.terms t).symbol args has in
     atom_waits c owners (record { equal = (name c u, owner owners t) ∷ []; alike = [] }) atoms (VarTerm u symbol xs) is
-        (no_terms c owners ((name c u, owner owners t) ∷ []) (atoms ++ VarTerm u symbol xs ∷ [])
-          (λ x y inside. pair_only (name c u) (owner owners t) x y (Class (atoms ++ VarTerm u symbol xs ∷ [])) one inside))
-        (record {
-          of = waits.of;
-          joins = through waits.joins (through (back (equated (contains_first (name c u, owner owners t) []))) (named (name_twice c shaped u)));
-          term = waits.term;
-          bound = waits.bound;
-          sign = waits.sign ∙ leads.0.sign;
-          args = pairwise_through (Joins c owners (record { equal = (name c u, owner owners t) ∷ []; alike = [] })) (term_at c.terms waits.term).args args xs (λ p q r. through) waits.args
-              (pairwise_as (λ p q. name c p ≡ name c q) (Joins c owners (record { equal = (name c u, owner owners t) ∷ []; alike = [] })) args xs (λ p q. named) names);
-        })
+    (no_terms c owners ((name c u, owner owners t) ∷ []) (atoms ++ VarTerm u symbol xs ∷ [])
+    (λ x y inside. pair_only (name c u) (owner owners t) x y (Class (atoms ++ VarTerm u symbol xs ∷ [])) one inside))
+    (record {
+      of = waits.of;
+      joins = through waits.joins (through (back (equated (contains_first (name c u, owner owners t) []))) (named (name_twice c shaped u)));
+      term = waits.term;
+      bound = waits.bound;
+      sign = waits.sign ∙ leads.0.sign;
+      args = pairwise_through (Joins c owners (record { equal = (name c u, owner owners t) ∷ []; alike = [] })) (term_at c.terms waits.term).args args xs (λ p q r. through) waits.args
+          (pairwise_as (λ p q. name c p ≡ name c q) (Joins c owners (record { equal = (name c u, owner owners t) ∷ []; alike = [] })) args xs (λ p q. named) names);
+    })

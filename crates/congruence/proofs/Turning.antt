@@ -1,6 +1,6 @@
 -- What the loops of a turn keep.
 use Rattle.std.proofs.Common.{ℕ, Bool, true, false, zero, suc, ◌<◌, ◌≤◌, ◌+◌, ◌≡◌, ◌≢◌, List, [], ◌∷◌, ◌++◌, length, map, take, get_or, refl, sym, ◌∙◌, ap, subst, inl, inr, ◌⊎◌, Some, None, Option, arith, get_or-set_other}
-use Rattle.std.specs.Prelude.{Contains, slice_index, slice_set, MatchBool, MatchOption, cond, nat_eq, ◌↔◌}
+use Rattle.std.specs.Prelude.{Contains, slice_index, slice_set, MatchBool, MatchOption, cond, nat_eq}
 use Rattle.std.proofs.lemmas.Bool.{eqb-true, eq-eqb, cases_eq, ne_eqb}
 use Rattle.tree_model.specs.declared.tree.Symbol.{Symbol}
 use Rattle.std.proofs.lemmas.List.{length_push, length-append, length-map, take_all}
@@ -21,16 +21,18 @@ use Rattle.settled_facts.specs.Settled.{name, IsFree, IsMarked, IsShaped}
 use Rattle.settled_facts.proofs.Terms.{name_twice}
 use Rattle.settled_facts.proofs.ReadOff.{name_within}
 use Rattle.congruence.specs.declared.noting.Note.{Note}
-use Rattle.congruence.specs.Agenda.{Agenda}
 use Rattle.congruence.specs.Merges.{redirected, Leads}
-use Rattle.congruence.specs.Turns.{IsChoice, Differ, TermsWait, IsWatched, AreWatched, AreBeside, ArePairedBelow, AreNotesOf, AreNotes, IsNoteOf, IsMet, IsLink, links_before, links_of, AreLinked}
+use Rattle.congruence.specs.Turns.{IsChoice, Differ, TermsWait, IsWatched, AreWatched, ArePairedBelow, AreNotesOf, AreNotes, IsNoteOf, IsMet, IsLink, links_before, links_of, AreLinked}
 use Rattle.congruence.proofs.Atoms.{contains_none, contains_last, before_or_last}
 
 pub paired_none : (xs ys : List ℕ) (old : List (ℕ × ℕ)) → ArePairedBelow 0 xs ys old old
-paired_none xs ys old x y = (λ inside. inl inside, λ either. elim either [
-  | inl inside ↦ inside
-  | inr (i, w, e, f) ↦ absurd (omega (arith, w))
-])
+paired_none xs ys old x y = (
+  λ inside. inl inside,
+  λ either. elim either [
+    | inl inside ↦ inside
+    | inr (i, w, e, f) ↦ absurd (omega (arith, w))
+  ],
+)
 
 below_or_at : (j i : ℕ) → j < i + 1 → (j < i) ⊎ (j ≡ i)
 below_or_at j i w = grind (arith, w)
@@ -50,10 +52,10 @@ paired_more i xs ys old now a b e f paired x y = (
     | inr (j, w, g, h) ↦ elim (below_or_at j i w) [
       | inl low ↦ Contains-append_left now ((a, b) ∷ []) (x, y) ((paired x y).1 (inr (j, low, g, h)))
       | inr at ↦
-        let p : a ≡ x = e ∙ ap (slice_index xs) (sym at) ∙ g in
-        let q : b ≡ y = f ∙ ap (slice_index ys) (sym at) ∙ h in
-        let one : (a, b) ≡ (x, y) = rw (p, q) refl in
-        subst (λ (z : ℕ × ℕ). Contains {X = ℕ × ℕ} (now ++ (a, b) ∷ []) z) one (contains_last now (a, b))
+          let p : a ≡ x = e ∙ ap (slice_index xs) (sym at) ∙ g in
+          let q : b ≡ y = f ∙ ap (slice_index ys) (sym at) ∙ h in
+          let one : (a, b) ≡ (x, y) = rw (p, q) refl in
+          subst (λ (z : ℕ × ℕ). Contains {X = ℕ × ℕ} (now ++ (a, b) ∷ []) z) one (contains_last now (a, b))
     ]
   ],
 )
@@ -240,7 +242,7 @@ module _ (c : Contents) (formed : IsWellFormed c) (v w : ℕ) (w_in : w < length
       let xs : List ℕ = (term_at c.terms t).args in
       let here : k < length (term_at c.terms t).args = omega (arith, l, ap length e, length-map (map (name c) (term_at c.terms t).args) (redirected v w), length-map (term_at c.terms t).args (name c)) in
       subst (λ z. z < length c.bindings) (sym (ap (λ (z : List ℕ). get_or z k d) e ∙ replaced_at (term_at c.terms t).args k d here))
-          (replaced_in (get_or (term_at c.terms t).args k 0) (formed.arguments t within k 0 here))
+      (replaced_in (get_or (term_at c.terms t).args k 0) (formed.arguments t within k 0 here))
 
 pub met_of : (c : Contents) → IsWellFormed c → (v w : ℕ) → w < length c.bindings → target_of c.bindings w ≡ None → (t : ℕ) (s : Symbol) (ys : List ℕ) (before : Option ℕ)
     → s ≡ (term_at c.terms t).symbol → ys ≡ map (redirected v w) (map (name c) (term_at c.terms t).args)
@@ -269,12 +271,13 @@ choice_apart c a b v w choice apart = elim choice.0 [
 
 pub may_bind : (c : Contents) (a b v w : ℕ) → IsChoice c a b v w → a < length c.bindings → b < length c.bindings → target_of c.bindings a ≡ None → target_of c.bindings b ≡ None
     → a ≢ b → (w < length c.bindings) × (root c.bindings w ≢ v)
-may_bind c a b v w choice a_in b_in a_root b_root apart =
-    ((choice_in c a b v w choice a_in b_in).1,
-      λ e. choice_apart c a b v w choice apart (sym (root_of_root c.bindings w (choice_root c a b v w choice a_root b_root).1) ∙ e))
+may_bind c a b v w choice a_in b_in a_root b_root apart = (
+  (choice_in c a b v w choice a_in b_in).1,
+  λ e. choice_apart c a b v w choice apart (sym (root_of_root c.bindings w (choice_root c a b v w choice a_root b_root).1) ∙ e),
+)
 
 -- a root that is bound to no term is free
-free_by : (c : Contents) (v : ℕ) (is : Bound) → is ≡ binding_of c.bindings v → target_of c.bindings v ≡ None → ((t : ℕ) → ¬ (binding_of c.bindings v ≡ Term t)) → IsFree c v
+pub free_by : (c : Contents) (v : ℕ) (is : Bound) → is ≡ binding_of c.bindings v → target_of c.bindings v ≡ None → ((t : ℕ) → ¬ (binding_of c.bindings v ≡ Term t)) → IsFree c v
 free_by c v Free e stop bare = sym e
 free_by c v (Variable x) e stop bare = absurd (let f : target_of c.bindings v ≡ Some x = ap target (sym e) in cc)
 free_by c v (Term t) e stop bare = absurd (bare t (sym e))

@@ -1,12 +1,11 @@
 -- What one merge of two classes does to what waits.
-use Rattle.std.specs.Prelude.{◌≡◌, ℕ, ◌<◌, List, length, map, nat_eq, cond, Contains, Option, Some}
+use Rattle.std.specs.Prelude.{◌≡◌, ℕ, ◌<◌, List, length, map, nat_eq, cond, Contains, Some}
 use Rattle.flat_form.specs.declared.atom.Flat.{Flat}
 use Rattle.flat_form.specs.Classes.{Class}
-use Rattle.term_graph.specs.declared.bound.Bound.{Bound}
 use Rattle.term_graph.specs.declared.bound.Bound.TheVariants.{Free, Term}
 use Rattle.term_graph.specs.Contents.{Contents, binding_of, term_at, IsLeader}
 use Rattle.settled_facts.specs.Settled.{name}
-use Rattle.congruence.specs.Agenda.{owner, Agenda, Joins, HasTerm, AreAlike, IsSound, IsComplete, IsUnderway}
+use Rattle.congruence.specs.Agenda.{owner, Agenda, Joins, HasTerm, AreAlike, IsSound, IsUnderway}
 
 -- v goes under w, and all else stays
 abbrev pub redirected : ℕ → ℕ → ℕ → ℕ

@@ -1,12 +1,14 @@
 -- What a turn of the agenda takes, and what it makes wait.
-use Rattle.std.specs.Prelude.{◌≡◌, ◌≢◌, ℕ, ◌<◌, ◌≤◌, ◌+◌, List, [], ◌∷◌, ◌++◌, length, map, slice_index, Contains, Option, Some, None, cond, nat_eq, ◌⊎◌, ◌↔◌}
+use Rattle.std.specs.Prelude.{◌≡◌, ◌≢◌, ℕ, suc, ◌*◌, Bool, true, false, ◌<◌, ◌≤◌, ◌+◌, List, [], ◌∷◌, ◌++◌, length, map, slice_index, Contains, Option, Some, None, cond, nat_eq, ◌⊎◌, ◌↔◌}
 use Rattle.flat_form.specs.declared.atom.Flat.{Flat}
-use Rattle.term_graph.specs.declared.bound.Bound.TheVariants.{Term, Variable}
-use Rattle.term_graph.specs.Contents.{Contents, binding_of, term_at, IsLeader, with_binding}
+use Rattle.flat_form.specs.Classes.{Unsolvable}
+use Rattle.term_graph.specs.declared.bound.Bound.{Bound}
+use Rattle.term_graph.specs.declared.bound.Bound.TheVariants.{Free, Term, Variable}
+use Rattle.term_graph.specs.Contents.{Contents, binding_of, term_at, IsLeader, with_binding, History, back_to, IsWellFormed}
 use Rattle.settled_facts.specs.Settled.{name, IsFree, IsMarked}
 use Rattle.settled_facts.specs.Changes.{IsLater}
 use Rattle.congruence.specs.declared.noting.Note.{Note}
-use Rattle.congruence.specs.Agenda.{owner, Agenda, AreAlike, IsUnderway}
+use Rattle.congruence.specs.Agenda.{owner, Agenda, IsUnderway}
 use Rattle.congruence.specs.Merges.{redirected, IsMoved, Leads}
 
 -- x and y stand at one place below n
@@ -50,7 +52,7 @@ abbrev pub TermsWait : Contents → ℕ → ℕ → List (ℕ × ℕ) → List (
 TermsWait c v w old new =
     (((t : ℕ) → ¬ (binding_of c.bindings v ≡ Term t)) × (new ≡ old))
     ⊎ ((t : ℕ) × (s : ℕ) × (binding_of c.bindings v ≡ Term t) × (binding_of c.bindings w ≡ Term s)
-      × HaveOneShape c t s × ArePaired (term_at c.terms s).args (term_at c.terms t).args old new)
+    × HaveOneShape c t s × ArePaired (term_at c.terms s).args (term_at c.terms t).args old new)
 
 -- the least term with what the key of t will be
 abbrev pub IsMet : Contents → ℕ → ℕ → ℕ → Option ℕ → Type 0
@@ -105,6 +107,7 @@ pub record IsMergeStep (old new : Contents) (before after : Agenda) (a b : ℕ) 
   pub choice : IsChoice old a b goes stays
   pub bound : new ≡ with_binding goes (Variable stays) old
   pub terms : TermsWait old goes stays before.equal after.equal
+  pub few : length after.equal ≤ length before.equal + 8
   pub notes : List Note
   pub noted : AreNotes old goes stays notes
   pub linked : AreLinked new before.alike after.alike notes
@@ -131,3 +134,36 @@ pub record LeadsOn (owners : List ℕ) (old new : Contents) (before after : Agen
   pub marks : new.marks ≡ old.marks
   pub terms : new.terms ≡ old.terms
   pub watched : AreWatched old new starts starts_now
+
+-- how many roots there are
+abbrev pub is_root : Bound → Bool
+is_root Free = true
+is_root (Variable v) = false
+is_root (Term t) = true
+
+abbrev pub roots_in : List Bound → ℕ
+roots_in [] = 0
+roots_in (b ∷ bindings) = cond (is_root b) (suc (roots_in bindings)) (roots_in bindings)
+
+-- falls with each pair that is taken: a merge makes at most eight pairs of variables wait, and one pair for each term
+abbrev pub weight : Contents → Agenda → ℕ
+weight c a = roots_in c.bindings * (9 + length c.terms) + (length a.equal + length a.alike)
+
+-- each term has an owner
+pub record AreOwners (c : Contents) (owners : List ℕ) : Type 0 where
+  pub counted : length owners ≡ length c.terms
+  pub within : (t : ℕ) → t < length c.terms → owner owners t < length c.bindings
+
+-- the atoms can't be solved
+abbrev pub Refutes : List ℕ → Contents → Agenda → Type 0
+Refutes owners c a = (atoms : List Flat) → IsUnderway c owners a atoms → Unsolvable atoms
+
+-- what is taken back to the length of an earlier trail is the earlier graph
+abbrev pub Grows : History → History → Type 0
+Grows earlier now = (length earlier.trail ≤ length now.trail) × (back_to (length earlier.trail) now ≡ earlier)
+
+-- a merge of the classes of a pair that was taken leads on
+abbrev pub MergeLeadsOn : Type 0
+MergeLeadsOn = (old new : Contents) (owners : List ℕ) (before rest after : Agenda) (p q : ℕ) → IsWellFormed old → p < length old.bindings → q < length old.bindings
+    → name old p ≢ name old q → IsMergeStep old new rest after (name old p) (name old q) → Takes owners before rest p q
+    → (atoms : List Flat) → IsUnderway old owners before atoms → IsUnderway new owners after atoms

@@ -60,6 +60,7 @@ impl Waiting {
         requires { length xs.now ≡ length ys.now }
         ensures alike { OnOk result (self.new.alike ≡ self.old.alike) }
         ensures paired { OnOk result (ArePaired xs.now ys.now self.old.equal self.new.equal) }
+        ensures counted { OnOk result (length self.new.equal ≡ length self.old.equal + length xs.now) }
     {
         for i in 0..xs.len() {
             self.equate(xs[i], ys[i])?;
@@ -76,12 +77,5 @@ impl Waiting {
             return Some(owners_of(owners, t, m));
         }
         self.equal.pop()
-    }
-
-    // How many pairs wait. It is the measure of what is left where nothing is merged.
-    pub(crate) fn len(&self) -> usize
-        ensures { result ≡ length self.now.equal }
-    {
-        self.equal.len()
     }
 }

@@ -8,3 +8,8 @@ mod agenda;
 mod laws;
 mod merging;
 mod noting;
+
+pub use laws::{end_laws, merge_laws, start_laws, turn_laws};
+
+#[cfg(test)]
+mod tests;

@@ -1,5 +1,5 @@
 // One merge of two classes.
-ghost use Rattle.std.specs.Prelude.{◌≡◌, ◌≢◌, ℕ, ◌<◌, None, length, IfOk, OnOk, MatchBool, ◌⊎◌};
+ghost use Rattle.std.specs.Prelude.{◌≡◌, ◌≢◌, ℕ, ◌<◌, ◌≤◌, ◌+◌, None, length, IfOk, OnOk, MatchBool, ◌⊎◌};
 ghost use Rattle.term_graph.specs.declared.bound.Bound.TheVariants.{Term};
 ghost use Rattle.term_graph.specs.Contents.{binding_of, target_of, IsGrown};
 ghost use Rattle.congruence.specs.Turns.{IsChoice, HaveOneShape, Differ, TermsWait, IsWatched, IsMergeStep, AreWatched};
@@ -30,13 +30,7 @@ fn choose(graph: &Graph, a: usize, b: usize) -> (usize, usize)
     match (has_term(graph, a), has_term(graph, b)) {
         (true, false) => (b, a),
         (false, true) => (a, b),
-        _ => {
-            if a < b {
-                (b, a)
-            } else {
-                (a, b)
-            }
-        }
+        _ => { if a < b { (b, a) } else { (a, b) } }
     }
 }
 
@@ -49,16 +43,12 @@ fn have_one_shape(graph: &Graph, t: usize, s: usize) -> bool
 }
 
 // The arguments of the terms of both wait, where v has one; false where the terms differ.
-fn pair_terms(
-    graph: &Graph,
-    waiting: &mut Waiting,
-    v: usize,
-    w: usize,
-) -> Result<bool, NoMemory>
+fn pair_terms(graph: &Graph, waiting: &mut Waiting, v: usize, w: usize) -> Result<bool, NoMemory>
     requires v_in { v < length graph.now.contents.bindings }
     requires w_in { w < length graph.now.contents.bindings }
     requires chosen { (t : ℕ) → binding_of graph.now.contents.bindings v ≡ Term t → (s : ℕ) × (binding_of graph.now.contents.bindings w ≡ Term s) }
     ensures alike { IfOk result (λ paired. waiting.new.alike ≡ waiting.old.alike) }
+    ensures few { IfOk result (λ paired. length waiting.new.equal ≤ length waiting.old.equal + 8) }
     ensures paired { IfOk result (λ paired. MatchBool paired (TermsWait graph.now.contents v w waiting.old.equal waiting.new.equal) (Differ graph.now.contents v w)) }
 {
     graph.well_formed();

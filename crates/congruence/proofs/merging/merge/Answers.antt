@@ -1,5 +1,5 @@
-use Rattle.std.proofs.Common.{ℕ, List, length, ◌<◌, inl, inr, sym, ◌∙◌, ap, refl, subst}
-use Rattle.term_graph.specs.Contents.{term_at, History}
+use Rattle.std.proofs.Common.{arith, List, length, ◌<◌, sym, ap, subst}
+use Rattle.term_graph.specs.Contents.{History}
 use Rattle.std.specs.Prelude.{Contains}
 use Rattle.congruence.specs.declared.noting.Note.{Note}
 use Rattle.congruence.specs.Turns.{AreLinked, TermsWait}
@@ -20,6 +20,7 @@ returns-clause-merged c = record {
   bound = ap (λ (z : History). z.contents) c.in_ok-bind.ensures.ok;
   terms = subst (λ z. TermsWait c.args.graph.now.contents c.choose-v.result.0 c.choose-v.result.1 c.args.waiting.now.equal z) (sym c.in_ok-link.ensures.equal)
       (terms_wait c.args.graph.now.contents c.choose-v.result.0 c.choose-v.result.1 c.args.waiting.now.equal c.pair_terms.new.waiting.equal c.in_ok-pair_terms.field-0 c.if-not-branch.false c.in_ok-pair_terms.ensures.paired);
+  few = omega (arith, c.in_ok-pair_terms.ensures.few, ap length c.in_ok-link.ensures.equal);
   notes = c.in_ok-notes.notes.items;
   noted = c.in_ok-notes.ensures;
   linked = subst (λ (z : List Note). AreLinked c.bind.new.self.contents c.args.waiting.now.alike c.link.new.waiting.alike z) c.as_slice.ensures.value

@@ -1,4 +1,4 @@
-use Rattle.std.proofs.Common.{inl, inr, sym, ◌∙◌, ap, refl}
+use Rattle.std.proofs.Common.{inr, sym, ◌∙◌}
 use Rattle.term_graph.specs.Contents.{term_at}
 use Rattle.congruence.proofs.Turning.{paired_as}
 use Rattle.congruence.proofs.merging.pair_terms.Goals as goal

@@ -1,6 +1,5 @@
-use Rattle.std.proofs.Common.{ℕ, ap, subst, sym, ◌∙◌, arith, length, ◌<◌, ◌≡◌, ◌++◌, ◌∷◌, []}
+use Rattle.std.proofs.Common.{ℕ, subst, sym, ◌≡◌, ◌++◌, ◌∷◌, []}
 use Rattle.std.specs.Prelude.{Contains}
-use Rattle.congruence.specs.Agenda.{Agenda}
 use Rattle.congruence.proofs.Atoms.{contains_last}
 use Rattle.congruence.proofs.agenda.Waiting.next.Goals as goal
 
