@@ -1,0 +1,10 @@
+pub mod Atoms
+pub mod Ending
+pub mod Leaders
+pub mod Merged
+pub mod OneMerge
+pub mod Pairs
+pub mod Shared
+pub mod Standing
+pub mod Starting
+pub mod Turning

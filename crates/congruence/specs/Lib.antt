@@ -1,0 +1,5 @@
+pub mod Agenda
+pub mod Ends
+pub mod Merges
+pub mod Starts
+pub mod Turns
