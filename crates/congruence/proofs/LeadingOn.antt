@@ -1,7 +1,7 @@
 -- Turns lead from one state to another, and each makes the agenda lighter.
-use Rattle.std.proofs.Common.{ℕ, zero, suc, ◌<◌, ◌≤◌, ◌+◌, ◌*◌, ◌≡◌, ◌≢◌, Bool, true, false, List, [], ◌∷◌, ◌++◌, length, map, get_or, refl, sym, ◌∙◌, ap, subst, inl, inr, ◌⊎◌, Some, None, Option, arith, length-set}
+use Rattle.std.proofs.Common.{ℕ, zero, suc, ◌<◌, ◌≤◌, ◌+◌, ◌*◌, ◌≡◌, ◌≢◌, Bool, true, false, List, [], ◌∷◌, length, map, refl, sym, ◌∙◌, ap, subst, inl, inr, ◌⊎◌, Some, None, arith, length-set}
 use Rattle.std.proofs.Math.Nat.{suc-mul}
-use Rattle.std.specs.Prelude.{All, Contains, slice_index, slice_index_or, slice_set, cond, MatchBool}
+use Rattle.std.specs.Prelude.{Contains, slice_index, slice_index_or, slice_set, MatchBool}
 use Rattle.std.proofs.lemmas.List.{length_push, length-map}
 use Rattle.std.proofs.lemmas.List.Elements.{Contains-append_left}
 use Rattle.flat_form.specs.declared.atom.Flat.{Flat}
@@ -9,20 +9,19 @@ use Rattle.flat_form.specs.Classes.{Class, turned, joined, Unsolvable}
 use Rattle.term_graph.specs.declared.bound.Bound.{Bound}
 use Rattle.term_graph.specs.declared.bound.Bound.TheVariants.{Free, Variable, Term}
 use Rattle.term_graph.specs.declared.term.Term.{Term as Made}
-use Rattle.term_graph.specs.Contents.{Contents, History, Step, grown, back_to, contents_at, IsGrown, binding_of, target, target_of, root, term_at, IsLeader, IsWellFormed, with_binding}
+use Rattle.term_graph.specs.Contents.{Contents, History, IsGrown, target, target_of, term_at, IsWellFormed}
 use Rattle.term_graph.proofs.Forests.{root_of_root}
 use Rattle.term_graph.proofs.Trailing.{back_to-grown, back_to-now}
-use Rattle.settled_facts.specs.Settled.{name, IsFree, IsMarked, IsShaped, HasTermIn, Follows}
+use Rattle.settled_facts.specs.Settled.{name, IsFree, IsMarked, IsShaped}
 use Rattle.settled_facts.specs.Changes.{IsJoin, IsChange, IsLater}
 use Rattle.settled_facts.specs.Changes as changes
 use Rattle.settled_facts.proofs.Changing.{change_later, later_later}
 use Rattle.settled_facts.proofs.ReadOff.{name_within}
 use Rattle.settled_facts.proofs.Terms.{name_twice}
 use Rattle.settled_facts.proofs.Solvable.{clash_unsolvable}
-use Rattle.congruence.specs.declared.noting.Note.{Note}
-use Rattle.congruence.specs.Agenda.{owner, Agenda, idle, Joins, named, equated, congruent, IsSound, IsUnderway}
-use Rattle.congruence.specs.Merges.{AreKept, IsAgendaSound}
-use Rattle.congruence.specs.Turns.{HaveOneShape, Takes, Differ, IsLink, IsMergeStep, AreWatched, AreInRange, AreOwned, AreOwners, LeadsOn, IsTurn, Refutes, RefutesBoth, Grows, is_root, roots_in, weight, IsMet}
+use Rattle.congruence.specs.Agenda.{owner, Agenda, Joins, named, equated, congruent, IsSound}
+use Rattle.congruence.specs.Merges.{AreKept}
+use Rattle.congruence.specs.Turns.{Takes, Differ, IsMergeStep, AreWatched, AreInRange, AreOwned, AreOwners, LeadsOn, IsTurn, Refutes, RefutesBoth, Grows, roots_in, weight, IsMet}
 use Rattle.congruence.proofs.Atoms.{contains_none, contains_last, before_or_last}
 use Rattle.congruence.proofs.Merged.{one_class, agenda_moves}
 use Rattle.congruence.proofs.OneMerge.{merge_leads_on, merge_join}

@@ -1,4 +1,3 @@
-use Rattle.std.proofs.Common.{◌≡◌}
 use Rattle.congruence.specs.Turns.{weight, LeadsOn, AreInRange, Grows}
 use Rattle.congruence.proofs.closing.close.Given as goal
 
