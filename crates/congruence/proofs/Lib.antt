@@ -2,6 +2,7 @@ pub mod Atoms
 pub mod Ending
 pub mod Leaders
 pub mod Merged
+pub mod LeadingOn
 pub mod OneMerge
 pub mod Pairs
 pub mod Shared

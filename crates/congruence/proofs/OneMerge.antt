@@ -28,31 +28,31 @@ use Rattle.congruence.proofs.Turning.{shaped_of, choice_root, choice_in, choice_
 module _ (c d : Contents) (owners : List ℕ) (rest after : Agenda) (p q : ℕ) (formed : IsWellFormed c) (p_in : p < length c.bindings) (q_in : q < length c.bindings)
     (apart : name c p ≢ name c q) (step : IsMergeStep c d rest after (name c p) (name c q)) (p_root : target_of c.bindings (name c p) ≡ None) (q_root : target_of c.bindings (name c q) ≡ None)
     (p_low : name c p < length c.bindings) (q_low : name c q < length c.bindings) where
-  abbrev v : ℕ
+  abbrev pub v : ℕ
   v = step.goes
 
-  abbrev w : ℕ
+  abbrev pub w : ℕ
   w = step.stays
 
   shaped : IsShaped c
   shaped = shaped_of c formed
 
-  v_root : target_of c.bindings v ≡ None
+  pub v_root : target_of c.bindings v ≡ None
   v_root = (choice_root c (name c p) (name c q) v w step.choice p_root q_root).0
 
   w_root : target_of c.bindings w ≡ None
   w_root = (choice_root c (name c p) (name c q) v w step.choice p_root q_root).1
 
-  own_w : name c w ≡ w
+  pub own_w : name c w ≡ w
   own_w = root_of_root c.bindings w w_root
 
   own_v : name c v ≡ v
   own_v = root_of_root c.bindings v v_root
 
-  others : w ≢ v
+  pub others : w ≢ v
   others = choice_apart c (name c p) (name c q) v w step.choice apart
 
-  abbrev join : IsJoin c d v w
+  abbrev pub join : IsJoin c d v w
   join = record {
     to = w;
     bindings = ap (λ (z : Contents). z.bindings) step.bound;
@@ -278,3 +278,9 @@ pub merge_leads_on : MergeLeadsOn
 merge_leads_on c d owners before rest after p q formed p_in q_in apart step takes =
     let shaped : IsShaped c = shaped_of c formed in
     leads_underway c d owners rest after p q formed p_in q_in apart step (shaped.forest.ends p) (shaped.forest.ends q) (name_within c shaped p p_in) (name_within c shaped q q_in) before takes
+
+pub merge_join : (c d : Contents) (rest after : Agenda) (p q : ℕ) → IsWellFormed c → p < length c.bindings → q < length c.bindings → name c p ≢ name c q
+    → (step : IsMergeStep c d rest after (name c p) (name c q)) → IsJoin c d step.goes step.stays
+merge_join c d rest after p q formed p_in q_in apart step =
+    let shaped : IsShaped c = shaped_of c formed in
+    join c d [] rest after p q formed p_in q_in apart step (shaped.forest.ends p) (shaped.forest.ends q) (name_within c shaped p p_in) (name_within c shaped q q_in)

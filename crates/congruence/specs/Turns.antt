@@ -167,3 +167,13 @@ abbrev pub MergeLeadsOn : Type 0
 MergeLeadsOn = (old new : Contents) (owners : List ℕ) (before rest after : Agenda) (p q : ℕ) → IsWellFormed old → p < length old.bindings → q < length old.bindings
     → name old p ≢ name old q → IsMergeStep old new rest after (name old p) (name old q) → Takes owners before rest p q
     → (atoms : List Flat) → IsUnderway old owners before atoms → IsUnderway new owners after atoms
+
+-- p and q have one name, and nothing is done; or their classes are merged
+abbrev pub IsTurn : Contents → Contents → Agenda → Agenda → List ℕ → List ℕ → ℕ → ℕ → Type 0
+IsTurn old new before after starts starts_now p q =
+    ((name old p ≡ name old q) × (new ≡ old) × (after ≡ before) × (starts_now ≡ starts))
+    ⊎ ((name old p ≢ name old q) × IsMergeStep old new before after (name old p) (name old q) × AreWatched old new starts starts_now)
+
+-- no atoms can be solved that make p and q equal, which were taken
+abbrev pub RefutesBoth : Contents → Agenda → ℕ → ℕ → Type 0
+RefutesBoth c rest p q = (owners : List ℕ) (before : Agenda) → Takes owners before rest p q → Refutes owners c before
