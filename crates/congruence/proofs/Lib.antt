@@ -1,4 +1,5 @@
 pub mod Atoms
+pub mod Begins
 pub mod Ending
 pub mod Leaders
 pub mod Merged

@@ -1,4 +1,5 @@
 pub mod Agenda
+pub mod Begun
 pub mod Ends
 pub mod Merges
 pub mod Starts

@@ -5,6 +5,7 @@
 #![tactic(auto)]
 
 mod agenda;
+mod beginning;
 mod closing;
 mod laws;
 mod merging;

@@ -63,7 +63,7 @@ fn pair_terms(graph: &Graph, waiting: &mut Waiting, v: usize, w: usize) -> Resul
 }
 
 // The walk begins at v, where it is free and has a mark.
-fn watch(graph: &Graph, starts: &mut Places, v: usize) -> Result<(), NoMemory>
+pub(crate) fn watch(graph: &Graph, starts: &mut Places, v: usize) -> Result<(), NoMemory>
     requires { v < length graph.now.contents.bindings }
     ensures { OnOk result (IsWatched graph.now.contents v starts.old starts.new) }
 {
