@@ -1,6 +1,7 @@
 pub mod Atoms
 pub mod Begins
 pub mod Ending
+pub mod Enters
 pub mod Leaders
 pub mod Merged
 pub mod LeadingOn

@@ -7,6 +7,7 @@
 mod agenda;
 mod beginning;
 mod closing;
+mod entering;
 mod laws;
 mod merging;
 mod noting;
