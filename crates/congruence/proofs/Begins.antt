@@ -10,8 +10,9 @@ use Rattle.flat_form.specs.declared.atom.Flat.TheVariants.{VarVar, VarTerm, Fini
 use Rattle.flat_form.specs.Classes.{clash}
 use Rattle.term_graph.specs.declared.bound.Bound.TheVariants.{Term}
 use Rattle.term_graph.specs.declared.term.Term.{Term as Made}
-use Rattle.term_graph.specs.Contents.{Contents, binding_of, term_at, root, IsLeader, IsWellFormed, with_term, with_binding, History, IsInterned, grown, BoundAt}
+use Rattle.term_graph.specs.Contents.{Contents, binding_of, term_at, root, IsLeader, IsWellFormed, with_term, with_binding, History, IsInterned, Grows, grown, BoundAt}
 use Rattle.term_graph.specs.Contents.{Interns}
+use Rattle.term_graph.proofs.Growing.{grows_on, grows_none}
 use Rattle.tree_facts.proofs.Renumbering.{contains_image}
 use Rattle.settled_facts.specs.Changes.{IsTerming, IsInterning, interned, termed}
 use Rattle.settled_facts.proofs.Changing.{change_shape, change_later, later_later, term_other}
@@ -19,12 +20,12 @@ use Rattle.settled_facts.specs.Settled.{name, IsFree, IsMarked, IsShaped, IsSett
 use Rattle.settled_facts.proofs.ReadOff.{name_within}
 use Rattle.settled_facts.proofs.Terms.{named_class}
 use Rattle.congruence.specs.Agenda.{owner, Agenda, idle, IsUnderway}
-use Rattle.congruence.specs.Turns.{ArePaired, AreInRange, AreOwners, IsWatched, Grows}
+use Rattle.congruence.specs.Turns.{ArePaired, AreInRange, AreOwners, IsWatched}
 use Rattle.congruence.specs.Begun.{HasShape, IsBegun, RefutesAtom, IsLonger}
 use Rattle.congruence.proofs.Atoms.{contains_none, contains_last}
 use Rattle.congruence.proofs.Starting.{settled_underway, atom_waits, equation_waits, arguments_wait, owner_waits, follows_more}
 use Rattle.congruence.proofs.Turning.{shaped_of}
-use Rattle.congruence.proofs.LeadingOn.{no_turn, grows_on, grows_none}
+use Rattle.congruence.proofs.LeadingOn.{no_turn}
 use Rattle.congruence.proofs.Standing.{term_stands}
 
 module _ (c : Contents) (owners : List ℕ) (formed : IsWellFormed c) (own : AreOwners c owners) where

@@ -13,10 +13,11 @@ use Rattle.term_graph.specs.declared.bound.Bound.TheVariants.{Term}
 use Rattle.term_graph.specs.declared.term.Term.{Term as Made}
 use Rattle.term_graph.specs.Contents.{Contents, binding_of, term_at, root, HasKey}
 use Rattle.settled_facts.specs.Settled.{name, IsFree, IsMarked, IsShaped, HasTermIn, Firm, leaf, node, IsSettled}
+use Rattle.settled_facts.specs.Changes.{IsMoreMarked}
 use Rattle.settled_facts.proofs.Terms.{named_at, one_term, free_no_term}
 use Rattle.settled_facts.proofs.Closing.{closed_by}
 use Rattle.congruence.specs.Agenda.{owner, Pairwise, idle, IsBacked, Joins, named, HasTerm, IsUnderway}
-use Rattle.congruence.specs.Ends.{IsMoreMarked, MarksKeepUnderway, MarksKeepFirm, SettlesAgain}
+use Rattle.congruence.specs.Ends.{MarksKeepUnderway, MarksKeepFirm, SettlesAgain}
 use Rattle.congruence.proofs.Pairs.{pairwise_as, pairwise_names}
 use Rattle.congruence.proofs.Atoms.{before_or_last, idle_named}
 

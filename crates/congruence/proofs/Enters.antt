@@ -4,45 +4,15 @@ use Rattle.std.specs.Prelude.{Contains, slice_index_or, MatchBool}
 use Rattle.std.proofs.lemmas.Bool.{cases_lt}
 use Rattle.std.proofs.lemmas.List.{get_or_past}
 use Rattle.flat_form.specs.declared.atom.Flat.{Flat}
-use Rattle.term_graph.specs.Contents.{Contents, History, Moment, back_to, contents_at, target, target_of, IsWellFormed}
+use Rattle.term_graph.specs.Contents.{Contents, target, target_of, IsWellFormed}
 use Rattle.term_graph.proofs.Forests.{root_of_root}
 use Rattle.settled_facts.specs.Settled.{name, IsFree, IsMarked}
 use Rattle.settled_facts.proofs.Changing.{later_later}
 use Rattle.congruence.specs.Agenda.{Agenda, idle}
-use Rattle.congruence.specs.Turns.{LeadsOn, Refutes, Grows}
+use Rattle.congruence.specs.Turns.{LeadsOn, Refutes}
 use Rattle.congruence.specs.Begun.{IsBegun, RefutesAtom}
 use Rattle.congruence.proofs.Atoms.{contains_none}
 use Rattle.congruence.proofs.LeadingOn.{owners_now}
-
-contents_back : (xs : List Moment) (c : Contents) (m n : ℕ) → m ≤ n → contents_at (take n xs) (contents_at xs c n) m ≡ contents_at xs c m
-contents_back [] c zero zero l = refl
-contents_back [] c zero (suc n) l = refl
-contents_back [] c (suc m) zero l = absurd (omega (arith, l))
-contents_back [] c (suc m) (suc n) l = refl
-contents_back (x ∷ xs) c zero zero l = refl
-contents_back (x ∷ xs) c zero (suc n) l = refl
-contents_back (x ∷ xs) c (suc m) zero l = absurd (omega (arith, l))
-contents_back (x ∷ xs) c (suc m) (suc n) l = contents_back xs c m n (omega (arith, l))
-
-take_back : (xs : List Moment) (m n : ℕ) → m ≤ n → take m (take n xs) ≡ take m xs
-take_back [] zero zero l = refl
-take_back [] zero (suc n) l = refl
-take_back [] (suc m) zero l = absurd (omega (arith, l))
-take_back [] (suc m) (suc n) l = refl
-take_back (x ∷ xs) zero zero l = refl
-take_back (x ∷ xs) zero (suc n) l = refl
-take_back (x ∷ xs) (suc m) zero l = absurd (omega (arith, l))
-take_back (x ∷ xs) (suc m) (suc n) l = ap (λ z. x ∷ z) (take_back xs m n (omega (arith, l)))
-
--- a graph that has grown twice has grown
-pub grows_through : (one two three : History) → Grows one two → Grows two three → Grows one three
-grows_through one two three a b =
-    let m : ℕ = length one.trail in
-    let n : ℕ = length two.trail in (
-      omega (arith, a.0, b.0),
-      rw (sym (contents_back three.trail three.contents (length one.trail) (length two.trail) a.0), sym (take_back three.trail (length one.trail) (length two.trail) a.0))
-          (ap (back_to (length one.trail)) b.1 ∙ a.1),
-    )
 
 pub begun_closed : (c d e : Contents) (owners more : List ℕ) (a : Agenda) (s t : List ℕ) (atom : Flat) → IsWellFormed d → IsBegun c d owners more a s atom → LeadsOn more d e a idle s t → IsBegun c e owners more idle t atom
 begun_closed c d e owners more a s t atom formed begun on =

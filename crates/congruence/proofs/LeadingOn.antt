@@ -9,9 +9,8 @@ use Rattle.flat_form.specs.Classes.{Class, turned, joined, Unsolvable}
 use Rattle.term_graph.specs.declared.bound.Bound.{Bound}
 use Rattle.term_graph.specs.declared.bound.Bound.TheVariants.{Free, Variable, Term}
 use Rattle.term_graph.specs.declared.term.Term.{Term as Made}
-use Rattle.term_graph.specs.Contents.{Contents, History, IsGrown, target, target_of, term_at, IsWellFormed}
+use Rattle.term_graph.specs.Contents.{Contents, target, target_of, term_at, IsWellFormed}
 use Rattle.term_graph.proofs.Forests.{root_of_root}
-use Rattle.term_graph.proofs.Trailing.{back_to-grown, back_to-now}
 use Rattle.settled_facts.specs.Settled.{name, IsFree, IsMarked, IsShaped}
 use Rattle.settled_facts.specs.Changes.{IsJoin, IsChange, IsLater}
 use Rattle.settled_facts.specs.Changes as changes
@@ -21,24 +20,11 @@ use Rattle.settled_facts.proofs.Terms.{name_twice}
 use Rattle.settled_facts.proofs.Solvable.{clash_unsolvable}
 use Rattle.congruence.specs.Agenda.{owner, Agenda, Joins, named, equated, congruent, IsSound}
 use Rattle.congruence.specs.Merges.{AreKept}
-use Rattle.congruence.specs.Turns.{Takes, Differ, IsMergeStep, AreWatched, AreInRange, AreOwned, AreOwners, LeadsOn, IsTurn, Refutes, RefutesBoth, Grows, roots_in, weight, IsMet}
+use Rattle.congruence.specs.Turns.{Takes, Differ, IsMergeStep, AreWatched, AreInRange, AreOwned, AreOwners, LeadsOn, IsTurn, Refutes, RefutesBoth, roots_in, weight, IsMet}
 use Rattle.congruence.proofs.Atoms.{contains_none, contains_last, before_or_last}
 use Rattle.congruence.proofs.Merged.{one_class, agenda_moves}
 use Rattle.congruence.proofs.OneMerge.{merge_leads_on, merge_join}
 use Rattle.congruence.proofs.Turning.{shaped_of, choice_root, choice_in}
-
--- a graph that has grown by one call more has grown
-pub grows_on : (first old new : History) → Grows first old → ((new ≡ old) ⊎ IsGrown old new) → Grows first new
-grows_on first old new grows either = elim either [
-  | inl e ↦ subst (Grows first) (sym e) grows
-  | inr (step, c, e) ↦ subst (Grows first) (sym e) (
-    omega (arith, grows.0, length_push old.trail (record { step = step; before = old.contents })),
-    back_to-grown (length first.trail) step c old grows.0 ∙ grows.1,
-  )
-]
-
-pub grows_none : (h : History) → Grows h h
-grows_none h = (omega arith, back_to-now (length h.trail) h refl)
 
 -- what was taken is joined
 pub takes_joins : (c : Contents) (owners : List ℕ) (before rest : Agenda) (p q : ℕ) → Takes owners before rest p q → Joins c owners before p q

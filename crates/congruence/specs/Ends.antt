@@ -5,13 +5,8 @@ use Rattle.flat_form.specs.declared.atom.Flat.TheVariants.{Finite}
 use Rattle.flat_form.specs.Classes.{Reached}
 use Rattle.term_graph.specs.Contents.{Contents}
 use Rattle.settled_facts.specs.Settled.{name, IsFree, IsMarked, IsShaped, Firm, IsSettled}
+use Rattle.settled_facts.specs.Changes.{IsMoreMarked}
 use Rattle.congruence.specs.Agenda.{idle, IsUnderway}
-
--- more roots are marked, and nothing else is changed
-pub record IsMoreMarked (old new : Contents) : Type 0 where
-  pub bindings : new.bindings ≡ old.bindings
-  pub terms : new.terms ≡ old.terms
-  pub marks : (r : ℕ) → IsMarked old r → IsMarked new r
 
 -- marks of what must be finite change nothing of what waits
 abbrev pub MarksKeepUnderway : Type 0

@@ -4,7 +4,7 @@ use Rattle.flat_form.specs.declared.atom.Flat.{Flat}
 use Rattle.flat_form.specs.Classes.{Unsolvable}
 use Rattle.term_graph.specs.declared.bound.Bound.{Bound}
 use Rattle.term_graph.specs.declared.bound.Bound.TheVariants.{Free, Term, Variable}
-use Rattle.term_graph.specs.Contents.{Contents, binding_of, term_at, IsLeader, with_binding, History, back_to, IsWellFormed}
+use Rattle.term_graph.specs.Contents.{Contents, binding_of, term_at, IsLeader, with_binding, IsWellFormed}
 use Rattle.settled_facts.specs.Settled.{name, IsFree, IsMarked}
 use Rattle.settled_facts.specs.Changes.{IsLater}
 use Rattle.congruence.specs.declared.noting.Note.{Note}
@@ -157,10 +157,6 @@ pub record AreOwners (c : Contents) (owners : List ℕ) : Type 0 where
 -- the atoms can't be solved
 abbrev pub Refutes : List ℕ → Contents → Agenda → Type 0
 Refutes owners c a = (atoms : List Flat) → IsUnderway c owners a atoms → Unsolvable atoms
-
--- what is taken back to the length of an earlier trail is the earlier graph
-abbrev pub Grows : History → History → Type 0
-Grows earlier now = (length earlier.trail ≤ length now.trail) × (back_to (length earlier.trail) now ≡ earlier)
 
 -- a merge of the classes of a pair that was taken leads on
 abbrev pub MergeLeadsOn : Type 0

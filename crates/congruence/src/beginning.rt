@@ -2,9 +2,10 @@
 ghost use Rattle.std.specs.Prelude.{◌≡◌, [], ◌<◌, length, IfOk, MatchBool, map};
 ghost use Rattle.flat_form.specs.Numbering.{AtomOver};
 ghost use Rattle.flat_form.specs.declared.atom.Flat.TheVariants.{VarTerm};
+ghost use Rattle.term_graph.specs.Contents.{Grows};
 ghost use Rattle.settled_facts.specs.Settled.{name, IsFree};
 ghost use Rattle.congruence.specs.Agenda.{idle};
-ghost use Rattle.congruence.specs.Turns.{AreOwners, Grows};
+ghost use Rattle.congruence.specs.Turns.{AreOwners};
 ghost use Rattle.congruence.specs.Begun.{HasShape, IsBegun, RefutesAtom, IsLonger};
 
 use crate::agenda::Waiting;

@@ -1,8 +1,8 @@
 // The agenda is worked off.
 ghost use Rattle.std.specs.Prelude.{◌≡◌, ◌<◌, length, IfOk, MatchBool, ◌⊎◌};
-ghost use Rattle.term_graph.specs.Contents.{IsGrown};
+ghost use Rattle.term_graph.specs.Contents.{IsGrown, Grows};
 ghost use Rattle.congruence.specs.Agenda.{idle};
-ghost use Rattle.congruence.specs.Turns.{IsTurn, RefutesBoth, AreInRange, AreOwners, LeadsOn, Refutes, Grows};
+ghost use Rattle.congruence.specs.Turns.{IsTurn, RefutesBoth, AreInRange, AreOwners, LeadsOn, Refutes};
 
 use crate::agenda::Waiting;
 use crate::merging::merge;

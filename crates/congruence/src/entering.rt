@@ -1,8 +1,9 @@
 // An atom more, with all that it makes equal; marks of what must be finite are left to the walks that begin at `starts`.
 ghost use Rattle.std.specs.Prelude.{◌≡◌, [], length, IfOk, MatchBool};
 ghost use Rattle.flat_form.specs.Numbering.{AtomOver};
+ghost use Rattle.term_graph.specs.Contents.{Grows};
 ghost use Rattle.congruence.specs.Agenda.{idle};
-ghost use Rattle.congruence.specs.Turns.{AreOwners, Grows};
+ghost use Rattle.congruence.specs.Turns.{AreOwners};
 ghost use Rattle.congruence.specs.Begun.{IsBegun, RefutesAtom, IsLonger};
 
 use crate::agenda::Waiting;

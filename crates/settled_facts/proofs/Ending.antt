@@ -1,5 +1,5 @@
 -- Walks that end come round nowhere, and make a variable firm where their leaves have marks.
-use Rattle.std.proofs.Common.{ℕ, ◌≡◌, ◌<◌, List, [], ◌∷◌, ◌++◌, length, refl, sym, ap, ◌∙◌, subst, arith, inl, inr, ◌⊎◌}
+use Rattle.std.proofs.Common.{ℕ, ◌≡◌, ◌<◌, List, [], ◌∷◌, ◌++◌, length, refl, sym, ◌∙◌, subst, arith, inl, inr}
 use Rattle.std.specs.Prelude.{slice_index, Contains}
 use Rattle.std.proofs.lemmas.Bool.{cases_eq}
 use Rattle.tree_model.specs.declared.tree.Symbol.{Symbol}
@@ -7,9 +7,9 @@ use Rattle.tree_facts.proofs.Members.{contains_cases}
 use Rattle.flat_form.specs.declared.atom.Flat.{Flat}
 use Rattle.flat_form.specs.declared.atom.Flat.TheVariants.{VarVar, VarTerm}
 use Rattle.flat_form.specs.Solved.{IsOpen}
-use Rattle.flat_facts.specs.Spread.{IsTarget, Leads, stays, goes, ComesRound, IsLeaf}
+use Rattle.flat_facts.specs.Spread.{IsTarget, Leads, stays, goes}
 use Rattle.term_graph.specs.Contents.{Contents}
-use Rattle.settled_facts.specs.Settled.{name, IsFree, IsMarked, IsShaped, HasTermIn, Firm, leaf, node}
+use Rattle.settled_facts.specs.Settled.{name, IsFree, IsMarked, IsShaped, Firm, leaf, node}
 use Rattle.settled_facts.specs.Forms.{AreEquations}
 use Rattle.settled_facts.specs.Ends.{Ends, ends, EndsHasNoRound, MarkedLeavesMakeFirm}
 use Rattle.settled_facts.proofs.Terms.{kind_of, Kind, free, applied, free_no_term, name_free, name_argument, name_twice}
@@ -36,7 +36,7 @@ module _ (basic : List Flat) where
       → ¬ Leads basic (slice_index xs i) path before u
   no_way_back u (ends _ next) s xs i path before a l = λ d. turn u (slice_index xs i) s xs i refl a l (no_way_back (slice_index xs i) (next s xs a i l)) d
 
-  no_round : (u w : ℕ) (path before : List ℕ) → Ends basic u → Leads basic u path before w → ¬ Contains before w
+  pub no_round : (u w : ℕ) (path before : List ℕ) → Ends basic u → Leads basic u path before w → ¬ Contains before w
   no_round u w _ _ e (stays _) = λ i. omega (arith, i.1)
   no_round u w _ _ (ends _ next) (goes _ _ s xs i path before a l d) = λ inside. elim (contains_cases u w before inside) [
     | inl e ↦ no_way_back u (ends u next) s xs i path before a l (subst (λ (z : ℕ). Leads basic (slice_index xs i) path before z) (sym e) d)

@@ -1,6 +1,7 @@
 pub mod Changing
 pub mod Closing
 pub mod Ending
+pub mod Equations
 pub mod FormSettled
 pub mod Forms
 pub mod FreeStays

@@ -1,5 +1,5 @@
 -- Settled atoms can be solved; clashes and walks that come round.
-use Rattle.std.proofs.Common.{ℕ, zero, suc, ◌≡◌, ◌<◌, List, [], ◌∷◌, map, length, refl, sym, ap, ◌∙◌, subst, arith, inl, inr, ◌⊎◌}
+use Rattle.std.proofs.Common.{ℕ, ◌≡◌, ◌<◌, List, [], map, length, refl, sym, ap, ◌∙◌, subst, arith, inl, inr, ◌⊎◌}
 use Rattle.std.specs.Prelude.{slice_index, Contains}
 use Rattle.std.proofs.lemmas.List.{length-map}
 use Rattle.tree_facts.proofs.Members.{contains_cases}
@@ -7,12 +7,13 @@ use Rattle.tree_model.specs.declared.tree.Symbol.{Symbol}
 use Rattle.flat_form.specs.declared.atom.Flat.{Flat}
 use Rattle.flat_form.specs.declared.atom.Flat.TheVariants.{VarVar, VarTerm}
 use Rattle.flat_form.specs.Classes.{Class, itself, turned, joined, Reached, child, Walk, step, more, Unsolvable, clash, loop}
-use Rattle.flat_facts.specs.Spread.{IsTarget, Leads, stays, goes, ComesRound}
+use Rattle.flat_facts.specs.Spread.{IsTarget, Leads, stays, goes, ComesRound, IsLeaf}
 use Rattle.flat_facts.proofs.Heads.{reached_class}
 use Rattle.term_graph.specs.Contents.{Contents}
-use Rattle.settled_facts.specs.Settled.{name, IsFree, IsShaped, HasTermIn, Firm, leaf, node, Follows, IsSettled}
+use Rattle.settled_facts.specs.Settled.{name, IsShaped, HasTermIn, Firm, leaf, node, Follows, IsSettled}
 use Rattle.settled_facts.specs.Forms.{AreEquations, SettledIsSolvable, ClashIsUnsolvable, LoopIsUnsolvable}
-use Rattle.settled_facts.proofs.Terms.{one_term, named_at, free_no_term, name_term, named_class, name_twice}
+use Rattle.settled_facts.specs.Ends.{LeavesAreReached}
+use Rattle.settled_facts.proofs.Terms.{one_term, named_at, free_no_term, name_term, named_class}
 use Rattle.settled_facts.proofs.Forms.{classes}
 
 -- the first step of a walk, and what is behind it
@@ -132,8 +133,14 @@ module _ (c : Contents) (atoms basic : List Flat) (shaped : IsShaped c) (follows
   start_class v start (inl i) = let e = equations.each (VarVar v start) i in subst (λ (z : ℕ). Class atoms v z) e.0 (follows.sound v)
   start_class v start (inr e) = subst (λ (z : ℕ). Class atoms v z) e.0 (itself v)
 
+  leaf_reached : (v u : ℕ) → Reached atoms v → IsLeaf basic v u → Reached atoms u
+  leaf_reached v u r k = walk_reached k.walk (reached_class [] atoms v k.start r (start_class v k.start k.target))
+
   round_unsolvable : (v : ℕ) (path : List ℕ) → Reached atoms v → ComesRound basic v path → Unsolvable atoms
   round_unsolvable v path r k = loop (walk_reached k.walk (reached_class [] atoms v k.start r (start_class v k.start k.target))) (walk_round k.walk k.again)
 
 pub loop_unsolvable : LoopIsUnsolvable
 loop_unsolvable c atoms basic v path shaped follows equations r k = round_unsolvable c atoms basic shaped follows equations v path r k
+
+pub leaves_reached : LeavesAreReached
+leaves_reached c atoms basic v u shaped follows equations r k = leaf_reached c atoms basic shaped follows equations v u r k

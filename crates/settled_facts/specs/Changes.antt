@@ -1,6 +1,6 @@
 -- Changes of contents, one at a time, and what stays through them.
 use Rattle.std.specs.Prelude.{◌≡◌, ℕ, ◌<◌, ◌≤◌, true, false, List, [], ◌∷◌, ◌++◌, length, slice_index_or, slice_set, Contains, None, ◌↔◌}
-use Rattle.term_graph.specs.declared.bound.Bound.TheVariants.{Free, Variable, Term}
+use Rattle.term_graph.specs.declared.bound.Bound.TheVariants.{Variable, Term}
 use Rattle.term_graph.specs.declared.term.Term.{Term as Made}
 use Rattle.term_graph.specs.Contents.{Contents, binding_of, target_of, term_at}
 use Rattle.settled_facts.specs.Settled.{name, IsFree, IsMarked, IsShaped}
@@ -50,6 +50,12 @@ pub data IsChange (before after : Contents) (touched : List ℕ) : Type 0 where
   termed : (v t : ℕ) → touched ≡ v ∷ [] → IsTerming before after v t → IsChange before after touched
   marked : (v : ℕ) → touched ≡ v ∷ [] → IsMarking before after v → IsChange before after touched
   interned : touched ≡ [] → IsInterning before after → IsChange before after touched
+
+-- more roots are marked, and nothing else is changed
+pub record IsMoreMarked (old new : Contents) : Type 0 where
+  pub bindings : new.bindings ≡ old.bindings
+  pub terms : new.terms ≡ old.terms
+  pub marks : (r : ℕ) → IsMarked old r → IsMarked new r
 
 -- Variables that had one name have one, no root comes back, each class that is free was free, and no mark or term goes.
 pub record IsLater (then now : Contents) : Type 0 where

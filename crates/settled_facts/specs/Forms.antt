@@ -1,5 +1,5 @@
 -- The conjunction that is read off the contents, and laws of it.
-use Rattle.std.specs.Prelude.{◌≡◌, ℕ, ◌<◌, ◌≤◌, List, length, map, slice_index, Contains, ◌↔◌}
+use Rattle.std.specs.Prelude.{◌≡◌, ℕ, zero, suc, ◌<◌, ◌≤◌, List, [], ◌∷◌, ◌++◌, length, map, slice_index, Contains, ◌↔◌}
 use Rattle.tree_model.specs.declared.tree.Symbol.{Symbol}
 use Rattle.flat_form.specs.declared.atom.Flat.{Flat}
 use Rattle.flat_form.specs.declared.atom.Flat.TheVariants.{VarVar, VarTerm, Finite}
@@ -8,7 +8,9 @@ use Rattle.flat_form.specs.Solved.{variable_of, Ascends}
 use Rattle.flat_form.specs.Added.{IsSolvedForm}
 use Rattle.flat_facts.specs.Names.{IsClosed}
 use Rattle.flat_facts.specs.Spread.{ComesRound}
-use Rattle.term_graph.specs.Contents.{Contents}
+use Rattle.term_graph.specs.declared.bound.Bound.{Bound}
+use Rattle.term_graph.specs.declared.bound.Bound.TheVariants.{Free, Variable, Term}
+use Rattle.term_graph.specs.Contents.{Contents, binding_of, term_at}
 use Rattle.settled_facts.specs.Settled.{name, IsFree, IsMarked, IsShaped, HasTermIn, Follows, IsSettled}
 
 -- l is the least variable with the name of v
@@ -43,6 +45,25 @@ Equates c (Finite v) = ⊥
 pub record AreEquations (c : Contents) (basic : List Flat) : Type 0 where
   pub each : (atom : Flat) → Contains basic atom → Equates c atom
   pub all : (atom : Flat) → Equates c atom → Contains basic atom
+
+-- the equation of v, which is bound so
+abbrev pub equation_by : Contents → ℕ → Bound → List Flat
+equation_by c v Free = []
+equation_by c v (Variable w) = VarVar v (name c v) ∷ []
+equation_by c v (Term t) = VarTerm v (term_at c.terms t).symbol (map (name c) (term_at c.terms t).args) ∷ []
+
+-- the equations of the variables below n
+abbrev pub equations_below : Contents → ℕ → List Flat
+equations_below c zero = []
+equations_below c (suc n) = equations_below c n ++ equation_by c n (binding_of c.bindings n)
+
+-- the equations of the contents, in order of their variables
+unfoldable pub equations_of : Contents → List Flat
+equations_of c = equations_below c (length c.bindings)
+
+-- they are all that the contents have
+abbrev pub EquationsAreThere : Type 0
+EquationsAreThere = (c : Contents) → IsShaped c → AreEquations c (equations_of c)
 
 -- the names of settled contents are closed under the rules of classes
 abbrev pub SettledIsClosed : Type 0

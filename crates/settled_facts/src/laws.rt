@@ -1,8 +1,8 @@
 //! Laws of settled contents, each a clause of a function that does nothing.
 ghost use Rattle.settled_facts.specs.Additions.{MoreIsAdded, NothingMoreWhereFreeStay, UnchangedSaysNoMore, UnchangedHeadIsLeast};
 ghost use Rattle.settled_facts.specs.Changes.{JoinRenames, ChangeKeepsShape, ChangeIsLater, LaterIsTransitive, UntouchedIsUnchanged, UnchangedIsTransitive, TouchedWasRoot, FreeStayUnlessTaken};
-ghost use Rattle.settled_facts.specs.Ends.{EndsHasNoRound, MarkedLeavesMakeFirm};
-ghost use Rattle.settled_facts.specs.Forms.{SettledIsClosed, SettledNamesAreClasses, SettledHasForm, SaysInRange, SettledIsSolvable, ClashIsUnsolvable, LoopIsUnsolvable, FormSettles};
+ghost use Rattle.settled_facts.specs.Ends.{EndsHasNoRound, MarkedLeavesMakeFirm, LeavesAreReached};
+ghost use Rattle.settled_facts.specs.Forms.{SettledIsClosed, SettledNamesAreClasses, SettledHasForm, EquationsAreThere, SaysInRange, SettledIsSolvable, ClashIsUnsolvable, LoopIsUnsolvable, FormSettles};
 ghost use Rattle.settled_facts.specs.Overlays.{OverlayReads, TermTakenBack, MarkTakenBack, JoinTakenBack, HeadIsAmongTouched};
 
 /// What settled contents say is the solved form of their atoms, which can be solved.
@@ -50,4 +50,6 @@ pub fn overlay_laws()
 pub fn walk_laws()
     ensures round { EndsHasNoRound }
     ensures firm { MarkedLeavesMakeFirm }
+    ensures leaves { LeavesAreReached }
+    ensures equations { EquationsAreThere }
 {}

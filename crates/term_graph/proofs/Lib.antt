@@ -1,6 +1,7 @@
 pub mod Adding
 pub mod Forests
 pub mod Forming
+pub mod Growing
 pub mod Interning
 pub mod Joined
 pub mod Joining

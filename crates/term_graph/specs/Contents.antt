@@ -49,6 +49,10 @@ back_to m h = record { contents = contents_at h.trail h.contents m; trail = take
 abbrev pub IsGrown : History → History → Type 0
 IsGrown earlier later = (step : Step) × (c : Contents) × (later ≡ grown step c earlier)
 
+-- what is taken back to the length of an earlier trail is the earlier graph
+abbrev pub Grows : History → History → Type 0
+Grows earlier now = (length earlier.trail ≤ length now.trail) × (back_to (length earlier.trail) now ≡ earlier)
+
 abbrev pub binding_of : List Bound → ℕ → Bound
 binding_of bindings v = slice_index_or bindings v Free
 

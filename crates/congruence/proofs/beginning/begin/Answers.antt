@@ -6,7 +6,7 @@ use Rattle.congruence.specs.Agenda.{Agenda, idle}
 use Rattle.congruence.specs.Turns.{ArePaired}
 use Rattle.congruence.specs.Begun.{RefutesAtom}
 use Rattle.congruence.proofs.Turning.{paired_as}
-use Rattle.congruence.proofs.LeadingOn.{grows_none}
+use Rattle.term_graph.proofs.Growing.{grows_none}
 use Rattle.congruence.proofs.Begins.{begun_equation, begun_finite, begun_arguments, begun_as, refutes_shape}
 use Rattle.congruence.proofs.beginning.begin.Goals as goal
 

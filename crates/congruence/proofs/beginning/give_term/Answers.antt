@@ -1,4 +1,4 @@
-use Rattle.congruence.proofs.LeadingOn.{grows_on, grows_none}
+use Rattle.term_graph.proofs.Growing.{grows_on, grows_none}
 use Rattle.std.proofs.Common.{ℕ, List, map, inl, inr, ap, arith}
 use Rattle.std.specs.Prelude.{slice_index}
 use Rattle.term_graph.specs.declared.bound.Bound.TheVariants.{Term}

@@ -1,4 +1,5 @@
-use Rattle.congruence.specs.Turns.{weight, LeadsOn, AreInRange, Grows}
+use Rattle.term_graph.specs.Contents.{Grows}
+use Rattle.congruence.specs.Turns.{weight, LeadsOn, AreInRange}
 use Rattle.congruence.proofs.closing.close.Given as goal
 
 abbrev pub decreases-more : goal.decreases-more

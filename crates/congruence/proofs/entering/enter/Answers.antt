@@ -2,7 +2,8 @@ use Rattle.std.proofs.Common.{ℕ, List, subst}
 use Rattle.congruence.specs.Agenda.{idle}
 use Rattle.congruence.specs.Turns.{LeadsOn, Refutes}
 use Rattle.congruence.specs.Begun.{IsBegun, RefutesAtom}
-use Rattle.congruence.proofs.Enters.{grows_through, begun_closed, begun_refutes, held_by, failed_by}
+use Rattle.term_graph.proofs.Growing.{grows_through}
+use Rattle.congruence.proofs.Enters.{begun_closed, begun_refutes, held_by, failed_by}
 use Rattle.congruence.proofs.entering.enter.Goals as goal
 
 pub returns-in_err-close-clause-grows : goal.returns-in_err-close-clause-grows
