@@ -18,13 +18,12 @@ use Rattle.settled_facts.specs.Changes.{IsTerming, IsInterning, interned, termed
 use Rattle.settled_facts.proofs.Changing.{change_shape, change_later, later_later, term_other}
 use Rattle.settled_facts.specs.Settled.{name, IsFree, IsMarked, IsShaped, IsSettled}
 use Rattle.settled_facts.proofs.ReadOff.{name_within}
-use Rattle.settled_facts.proofs.Terms.{named_class}
+use Rattle.settled_facts.proofs.Terms.{shaped_of, named_class}
 use Rattle.congruence.specs.Agenda.{owner, Agenda, idle, IsUnderway}
 use Rattle.congruence.specs.Turns.{ArePaired, AreInRange, AreOwners, IsWatched}
 use Rattle.congruence.specs.Begun.{HasShape, IsBegun, RefutesAtom, IsLonger}
 use Rattle.congruence.proofs.Atoms.{contains_none, contains_last}
 use Rattle.congruence.proofs.Starting.{settled_underway, atom_waits, equation_waits, arguments_wait, owner_waits, follows_more}
-use Rattle.congruence.proofs.Turning.{shaped_of}
 use Rattle.congruence.proofs.LeadingOn.{no_turn}
 use Rattle.congruence.proofs.Standing.{term_stands}
 

@@ -14,20 +14,12 @@ use Rattle.term_graph.specs.declared.term.Term.{Term as Made}
 use Rattle.term_graph.specs.Contents.{Contents, binding_of, term_at, root, HasKey}
 use Rattle.settled_facts.specs.Settled.{name, IsFree, IsMarked, IsShaped, HasTermIn, Firm, leaf, node, IsSettled}
 use Rattle.settled_facts.specs.Changes.{IsMoreMarked}
-use Rattle.settled_facts.proofs.Terms.{named_at, one_term, free_no_term}
+use Rattle.settled_facts.proofs.Terms.{named_at, one_term, term_same, free_no_term}
 use Rattle.settled_facts.proofs.Closing.{closed_by}
 use Rattle.congruence.specs.Agenda.{owner, Pairwise, idle, IsBacked, Joins, named, HasTerm, IsUnderway}
 use Rattle.congruence.specs.Ends.{MarksKeepUnderway, MarksKeepFirm, SettlesAgain}
 use Rattle.congruence.proofs.Pairs.{pairwise_as, pairwise_names}
 use Rattle.congruence.proofs.Atoms.{before_or_last, idle_named}
-
--- what a root is bound to, where the bindings and terms are the same
-pub term_same : (old new : Contents) → new.bindings ≡ old.bindings → new.terms ≡ old.terms → (r : ℕ) (s : Symbol) (ys : List ℕ) → HasTermIn old r s ys → HasTermIn new r s ys
-term_same old new bindings terms r s ys has = record {
-  term = has.term;
-  bound = ap (λ b. binding_of b r) bindings ∙ has.bound;
-  key = subst (λ (ts : List Made). HasKey new.bindings ts s ys has.term) (sym terms) (subst (λ (b : List Bound). HasKey b old.terms s ys has.term) (sym bindings) has.key);
-}
 
 pub marks_firm : MarksKeepFirm
 marks_firm old new r more (leaf free mark) = leaf (ap (λ b. binding_of b r) more.bindings ∙ free) (more.marks r mark)

@@ -16,7 +16,7 @@ use Rattle.settled_facts.specs.Changes.{IsJoin, IsChange, IsLater}
 use Rattle.settled_facts.specs.Changes as changes
 use Rattle.settled_facts.proofs.Changing.{change_later, later_later}
 use Rattle.settled_facts.proofs.ReadOff.{name_within}
-use Rattle.settled_facts.proofs.Terms.{name_twice}
+use Rattle.settled_facts.proofs.Terms.{shaped_of, name_twice}
 use Rattle.settled_facts.proofs.Solvable.{clash_unsolvable}
 use Rattle.congruence.specs.Agenda.{owner, Agenda, Joins, named, equated, congruent, IsSound}
 use Rattle.congruence.specs.Merges.{AreKept}
@@ -24,7 +24,7 @@ use Rattle.congruence.specs.Turns.{Takes, Differ, IsMergeStep, AreWatched, AreIn
 use Rattle.congruence.proofs.Atoms.{contains_none, contains_last, before_or_last}
 use Rattle.congruence.proofs.Merged.{one_class, agenda_moves}
 use Rattle.congruence.proofs.OneMerge.{merge_leads_on, merge_join}
-use Rattle.congruence.proofs.Turning.{shaped_of, choice_root, choice_in}
+use Rattle.congruence.proofs.Turning.{choice_root, choice_in}
 
 -- what was taken is joined
 pub takes_joins : (c : Contents) (owners : List ℕ) (before rest : Agenda) (p q : ℕ) → Takes owners before rest p q → Joins c owners before p q

@@ -14,7 +14,7 @@ use Rattle.term_graph.proofs.Forests.{root_of_root}
 use Rattle.settled_facts.specs.Settled.{name, IsShaped, Follows}
 use Rattle.settled_facts.specs.Changes.{IsJoin}
 use Rattle.settled_facts.proofs.Changing.{join_moves, join_keeps, join_other, join_bound}
-use Rattle.settled_facts.proofs.Terms.{named_class}
+use Rattle.settled_facts.proofs.Terms.{shaped_of, named_class}
 use Rattle.settled_facts.proofs.ReadOff.{name_within}
 use Rattle.congruence.specs.Agenda.{owner, Pairwise, Agenda, idle, AreAlike, IsBacked, Joins, named, equated, congruent, HasTerm, IsSound, IsUnderway}
 use Rattle.congruence.specs.Merges.{redirected, IsMerged, Leads, Meets, AreKept, IsAgendaSound, IsNoted}
@@ -23,7 +23,7 @@ use Rattle.congruence.proofs.Atoms.{contains_none, contains_last, before_or_last
 use Rattle.congruence.proofs.Pairs.{pairwise_as, names_pairwise}
 use Rattle.congruence.proofs.Shared.{new_names}
 use Rattle.congruence.proofs.Merged.{one_class, alike_class, follows_kept, merge_keeps}
-use Rattle.congruence.proofs.Turning.{shaped_of, choice_root, choice_in, choice_apart, free_by}
+use Rattle.congruence.proofs.Turning.{choice_root, choice_in, choice_apart, free_by}
 
 module _ (c d : Contents) (owners : List ℕ) (rest after : Agenda) (p q : ℕ) (formed : IsWellFormed c) (p_in : p < length c.bindings) (q_in : q < length c.bindings)
     (apart : name c p ≢ name c q) (step : IsMergeStep c d rest after (name c p) (name c q)) (p_root : target_of c.bindings (name c p) ≡ None) (q_root : target_of c.bindings (name c q) ≡ None)

@@ -18,7 +18,7 @@ use Rattle.std.specs.List.{AllByRecursion, IsDistinct as IsDistinctBy}
 use lib.Dec.{eqb}
 use Rattle.lists.specs.Distinct.{IsDistinct}
 use Rattle.settled_facts.specs.Settled.{name, IsFree, IsMarked, IsShaped}
-use Rattle.settled_facts.proofs.Terms.{name_twice}
+use Rattle.settled_facts.proofs.Terms.{shaped_of, name_twice}
 use Rattle.settled_facts.proofs.ReadOff.{name_within}
 use Rattle.congruence.specs.declared.noting.Note.{Note}
 use Rattle.congruence.specs.Merges.{redirected, Leads}
@@ -203,14 +203,6 @@ all_noted c v w users notes stop are noted =
 
 pub paired_as : (xs ys us vs : List ℕ) (old new : List (ℕ × ℕ)) → xs ≡ us → ys ≡ vs → ArePairedBelow (length xs) xs ys old new → ArePairedBelow (length us) us vs old new
 paired_as xs ys us vs old new e f paired = subst (λ (z : List ℕ). ArePairedBelow (length us) us z old new) f (subst (λ (z : List ℕ). ArePairedBelow (length z) z ys old new) e paired)
-
-pub shaped_of : (c : Contents) → IsWellFormed c → IsShaped c
-shaped_of c is = record {
-  forest = is.forest;
-  marks = is.sizes;
-  bound = is.bound_terms;
-  arguments = λ t i within inside. is.arguments t within i 0 inside;
-}
 
 module _ (c : Contents) (formed : IsWellFormed c) (v w : ℕ) (w_in : w < length c.bindings) (w_root : target_of c.bindings w ≡ None) where
   at_w : name c w ≡ w

@@ -1,5 +1,11 @@
 pub mod Standing
 pub mod Marking
+pub mod Chains
+pub mod Turning
+pub mod Nexts
+pub mod Staging
+pub mod Exploring
+pub mod Reached
 pub mod Walking
 pub mod Searching
 pub mod Gathering

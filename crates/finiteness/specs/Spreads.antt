@@ -1,7 +1,7 @@
 -- What the answer for a variable says.
 use Rattle.std.specs.Prelude.{List, ℕ}
-use Rattle.finiteness.specs.declared.spread.ListSpread.{ListSpread}
-use Rattle.finiteness.specs.declared.spread.ListSpread.TheVariants.{Leaves, Loop}
+use Rattle.finiteness.specs.declared.spreading.ListSpread.{ListSpread}
+use Rattle.finiteness.specs.declared.spreading.ListSpread.TheVariants.{Leaves, Loop}
 
 -- where the answer is a loop, its path has P
 abbrev pub IfLoop : ListSpread → (List ℕ → Type 0) → Type 0

@@ -1,12 +1,17 @@
-//! Finiteness along the equations of a solved conjunction: whether a walk from a variable comes round, and where walks end.
+//! Finiteness: whether a walk from a variable comes round, and where walks end, along the equations of a solved conjunction or
+//! the terms of a graph.
 #![tactic(auto)]
 
 mod leaves;
 mod lookup;
 mod search;
-mod spread;
+mod spreading;
+mod visits;
+mod walks;
 
-pub use spread::{ListSpread, spread_list};
+pub use spreading::{ListSpread, Outcome, spread, spread_list};
 
+#[cfg(test)]
+mod graph_tests;
 #[cfg(test)]
 mod tests;

@@ -9,7 +9,7 @@ use tree_model::{NoMemory, Places, Symbol};
 // Atoms are written in five letters each: what is said, the variable, and up to three variables more. Said is `=` for an
 // equation of variables, `!` for finite, `a` and `b` for names, `f` and `k` for symbols with one argument, `g` and `m` with
 // two, `h` and `n` with three. A variable is one figure.
-fn variable(letter: u8) -> usize {
+pub(crate) fn variable(letter: u8) -> usize {
     (letter % 16) as usize
 }
 
@@ -40,7 +40,7 @@ fn atom(alloc: Global, letters: [u8; 5]) -> Result<Flat, NoMemory> {
 }
 
 // The i-th five letters of the text.
-fn letters_at(text: &[u8], i: usize) -> [u8; 5]
+pub(crate) fn letters_at(text: &[u8], i: usize) -> [u8; 5]
     requires { i < length text.now / 5 }
 {
     let at = 5 * i;
@@ -53,7 +53,7 @@ fn letters_at(text: &[u8], i: usize) -> [u8; 5]
     ]
 }
 
-fn conjunction(alloc: Global, text: &[u8]) -> Result<Basic, NoMemory> {
+pub(crate) fn conjunction(alloc: Global, text: &[u8]) -> Result<Basic, NoMemory> {
     let mut basic = Basic::new(alloc);
     for i in 0..text.len() / 5 {
         basic.push(atom(alloc, letters_at(text, i))?)?;
@@ -62,7 +62,7 @@ fn conjunction(alloc: Global, text: &[u8]) -> Result<Basic, NoMemory> {
 }
 
 // Whether the list is written with these figures.
-fn is_list(list: &Places, figures: &[u8]) -> bool {
+pub(crate) fn is_list(list: &Places, figures: &[u8]) -> bool {
     if list.len() != figures.len() {
         return false;
     }
@@ -171,9 +171,9 @@ fn spreads_are_those_of_all_walks(rt: HostRuntime) -> Result<(), Fail> {
 // The first show one thing each: a start that equals another variable, one beyond all atoms, a finite atom, a loop behind
 // the second argument alone, shared terms with and without a loop behind them. The others are solved conjunctions made at
 // random. Expected is what a slow program finds that tries every walk.
-const COUNT: usize = 119;
+pub(crate) const COUNT: usize = 119;
 
-const CONJUNCTIONS: [&str; 119] = [
+pub(crate) const CONJUNCTIONS: [&str; 119] = [
     "f01..f10..",
     "f01..",
     "f00..",
@@ -295,14 +295,14 @@ const CONJUNCTIONS: [&str; 119] = [
     "=10..h2749!3...g449.k52..!8...n9322",
 ];
 
-const STARTS: [usize; 119] = [
+pub(crate) const STARTS: [usize; 119] = [
     0, 0, 0, 1, 2, 9, 0, 0, 0, 0, 0, 0, 0, 0, 0, 0, 0, 1, 3, 0, 0, 6, 0, 0, 6, 3, 0, 0, 0, 0, 0, 0,
     0, 0, 0, 0, 0, 0, 0, 0, 0, 0, 0, 0, 0, 0, 0, 0, 0, 0, 0, 0, 0, 8, 0, 0, 0, 3, 0, 0, 0, 0, 0, 0,
     0, 0, 0, 0, 0, 0, 0, 0, 0, 0, 6, 0, 0, 0, 0, 2, 6, 0, 0, 0, 0, 0, 0, 0, 0, 0, 4, 5, 5, 0, 0, 0,
     0, 0, 0, 0, 0, 0, 0, 1, 0, 0, 0, 0, 0, 0, 0, 0, 0, 6, 0, 0, 9, 0, 0,
 ];
 
-const SPREADS: [&str; 119] = [
+pub(crate) const SPREADS: [&str; 119] = [
     "L00", "E1", "L0", "E2", "L00", "E9", "E0", "E12", "L1", "L11", "E45", "L0010", "E3", "L0000",
     "L000", "E79", "E", "E0", "E3", "L0000", "L0000", "E6", "L00", "L00", "E1", "L1000", "E18",
     "L0000", "L00", "L0010", "L10020", "L000", "L001", "L0100", "L01", "L000", "L00", "L112",

@@ -47,7 +47,7 @@ pub ends_no_round : EndsHasNoRound
 ends_no_round basic v path end = λ k. no_round basic k.start k.last path k.before (end k.start k.target) k.walk k.again
 
 module _ (c : Contents) (basic : List Flat) (shaped : IsShaped c) (equations : AreEquations c basic) where
-  free_open : (r : ℕ) → IsFree c r → IsOpen basic r
+  pub free_open : (r : ℕ) → IsFree c r → IsOpen basic r
   free_open r f = record {
     no_variable = λ q i. (let e = equations.each (VarVar r q) i in e.1 (sym (name_free c r f) ∙ e.0));
     no_term = λ s ys i. free_no_term c r s ys f (equations.each (VarTerm r s ys) i);

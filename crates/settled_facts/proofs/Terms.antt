@@ -8,9 +8,18 @@ use Rattle.flat_form.specs.declared.atom.Flat.{Flat}
 use Rattle.flat_form.specs.Classes.{Class, joined, turned}
 use Rattle.term_graph.specs.declared.bound.Bound.{Bound}
 use Rattle.term_graph.specs.declared.bound.Bound.TheVariants.{Free, Variable, Term}
-use Rattle.term_graph.specs.Contents.{Contents, binding_of, target, target_of, root, IsForest, HasKey, term_at}
+use Rattle.term_graph.specs.declared.term.Term.{Term as Made}
+use Rattle.term_graph.specs.Contents.{Contents, binding_of, target, target_of, root, IsForest, HasKey, term_at, IsWellFormed}
 use Rattle.term_graph.proofs.Forests.{root_of_root}
 use Rattle.settled_facts.specs.Settled.{name, IsFree, IsMarked, IsShaped, HasTermIn, Firm, leaf, node, Follows}
+
+pub shaped_of : (c : Contents) → IsWellFormed c → IsShaped c
+shaped_of c is = record {
+  forest = is.forest;
+  marks = is.sizes;
+  bound = is.bound_terms;
+  arguments = λ t i within inside. is.arguments t within i 0 inside;
+}
 
 -- a root has one term
 pub one_term : (c : Contents) (r : ℕ) (s q : Symbol) (xs ys : List ℕ) → HasTermIn c r s xs → HasTermIn c r q ys → (s ≡ q) × (xs ≡ ys)
@@ -19,6 +28,14 @@ one_term c r s q xs ys h k =
       sym h.key.sign ∙ ap (λ t. (term_at c.terms t).symbol) same ∙ k.key.sign,
       sym h.key.args ∙ ap (λ t. map (root c.bindings) (term_at c.terms t).args) same ∙ k.key.args,
     )
+
+-- what a root is bound to, where the bindings and terms are the same
+pub term_same : (old new : Contents) → new.bindings ≡ old.bindings → new.terms ≡ old.terms → (r : ℕ) (s : Symbol) (ys : List ℕ) → HasTermIn old r s ys → HasTermIn new r s ys
+term_same old new bindings terms r s ys has = record {
+  term = has.term;
+  bound = ap (λ b. binding_of b r) bindings ∙ has.bound;
+  key = subst (λ (ts : List Made). HasKey new.bindings ts s ys has.term) (sym terms) (subst (λ (b : List Bound). HasKey b old.terms s ys has.term) (sym bindings) has.key);
+}
 
 pub name_free : (c : Contents) (r : ℕ) → IsFree c r → name c r ≡ r
 name_free c r e = root_of_root c.bindings r (ap target e)

@@ -2,7 +2,7 @@ use Rattle.std.proofs.Common.{arith, ◌<◌, ◌≤◌}
 use Rattle.congruence.specs.Turns.{weight}
 use Rattle.term_graph.proofs.Growing.{grows_on, grows_none}
 use Rattle.congruence.proofs.LeadingOn.{no_turn, leads_turn, refutes_turn, takes_in, takes_range, range_owned, range_turn, owners_now, turned_on, turned_off, takes_lighter, turn_lighter}
-use Rattle.congruence.proofs.Turning.{shaped_of}
+use Rattle.settled_facts.proofs.Terms.{shaped_of}
 use Rattle.congruence.proofs.closing.close.Goals as goal
 
 pub more-init : goal.more-init

@@ -7,7 +7,7 @@ use Rattle.finiteness.specs.declared.search.Found.TheVariants.{Met}
 use Rattle.finiteness.specs.Marks.{IsLeafAt}
 use Rattle.finiteness.specs.Found.{IsFound}
 use Rattle.finiteness.proofs.Ending.{bare_none, bare_leaf, done_none, done_leaf}
-use Rattle.finiteness.proofs.spread.spread_list.Goals as goal
+use Rattle.finiteness.proofs.spreading.spread_list.Goals as goal
 
 pub returns-in_default-clause-none : goal.returns-in_default-clause-none
 returns-in_default-clause-none c = bare_none c.args.b.now c.requires c.args.v c.target-start.result c.target-start.ensures c.in_default.ensures
