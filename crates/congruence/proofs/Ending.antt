@@ -8,11 +8,9 @@ use Rattle.flat_form.specs.declared.atom.Flat.{Flat}
 use Rattle.flat_form.specs.declared.atom.Flat.TheVariants.{VarVar, VarTerm, Finite}
 use Rattle.flat_form.specs.Classes.{Class, itself, Reached, marked, child}
 use Rattle.flat_facts.proofs.Names.{names_classes}
-use Rattle.term_graph.specs.declared.bound.Bound.{Bound}
 use Rattle.term_graph.specs.declared.bound.Bound.TheVariants.{Term}
-use Rattle.term_graph.specs.declared.term.Term.{Term as Made}
 use Rattle.term_graph.specs.Contents.{Contents, binding_of, term_at, root, HasKey}
-use Rattle.settled_facts.specs.Settled.{name, IsFree, IsMarked, IsShaped, HasTermIn, Firm, leaf, node, IsSettled}
+use Rattle.settled_facts.specs.Settled.{name, IsFree, IsMarked, IsShaped, HasTermIn, Firm, leaf, node, Follows, IsSettled}
 use Rattle.settled_facts.specs.Changes.{IsMoreMarked}
 use Rattle.settled_facts.proofs.Terms.{named_at, one_term, term_same, free_no_term}
 use Rattle.settled_facts.proofs.Closing.{closed_by}
@@ -25,34 +23,39 @@ pub marks_firm : MarksKeepFirm
 marks_firm old new r more (leaf free mark) = leaf (ap (λ b. binding_of b r) more.bindings ∙ free) (more.marks r mark)
 marks_firm old new r more (node s ys has each) = node s ys (term_same old new more.bindings more.terms r s ys has) (λ i w. marks_firm old new (slice_index ys i) more (each i w))
 
-module _ (old new : Contents) (owners : List ℕ) (more : IsMoreMarked old new) where
-  same_names : (u : ℕ) → name new u ≡ name old u
-  same_names u = ap (λ b. root b u) more.bindings
+pub same_names : (old new : Contents) → IsMoreMarked old new → (u : ℕ) → name new u ≡ name old u
+same_names old new more u = ap (λ b. root b u) more.bindings
 
+module _ (old new : Contents) (owners : List ℕ) (more : IsMoreMarked old new) where
   joins_still : {u v : ℕ} → Joins old owners idle u v → Joins new owners idle u v
-  joins_still {u} {v} j = named (same_names u ∙ idle_named old owners j ∙ sym (same_names v))
+  joins_still {u} {v} j = named (same_names old new more u ∙ idle_named old owners j ∙ sym (same_names old new more v))
 
   has_still : (v : ℕ) (s : Symbol) (xs : List ℕ) → HasTerm old owners idle v s xs → HasTerm new owners idle v s xs
   has_still v s xs has = record {
     of = has.of;
     joins = joins_still has.joins;
     term = has.term;
-    bound = ap (binding_of new.bindings) (same_names has.of) ∙ ap (λ b. binding_of b (name old has.of)) more.bindings ∙ has.bound;
+    bound = ap (binding_of new.bindings) (same_names old new more has.of) ∙ ap (λ b. binding_of b (name old has.of)) more.bindings ∙ has.bound;
     sign = ap (λ z. (term_at z has.term).symbol) more.terms ∙ has.sign;
     args = subst (λ z. Pairwise (Joins new owners idle) (term_at z has.term).args xs) (sym more.terms)
         (pairwise_as (Joins old owners idle) (Joins new owners idle) (term_at old.terms has.term).args xs (λ p q. joins_still) has.args);
   }
 
+-- what follows from the atoms still does, where they make finite what is marked
+pub follows_more : (old new : Contents) (atoms : List Flat) → IsMoreMarked old new → ((r : ℕ) → IsFree new r → IsMarked new r → Reached atoms r) → Follows old atoms
+    → Follows new atoms
+follows_more old new atoms more reached follows = record {
+  sound = λ v. subst (Class atoms v) (ap (λ b. root b v) (sym more.bindings)) (follows.sound v);
+  given = λ r s ys has.
+      let given = follows.given r s ys (term_same new old (sym more.bindings) (sym more.terms) r s ys has) in
+      (given.0, given.1, given.2, ap (λ b. root b given.0) more.bindings ∙ given.3, ap (λ b. map (root b) given.1) more.bindings ∙ given.4);
+  marked = reached;
+}
+
 pub marks_underway : MarksKeepUnderway
 marks_underway old new owners atoms more reached (sound, is) = (
   record {
-    follows = record {
-      sound = λ v. subst (Class atoms v) (sym (same_names old new owners more v)) (sound.follows.sound v);
-      given = λ r s ys has.
-          let given = sound.follows.given r s ys (term_same new old (sym more.bindings) (sym more.terms) r s ys has) in
-          (given.0, given.1, given.2, same_names old new owners more given.0 ∙ given.3, ap (λ b. map (root b) given.1) more.bindings ∙ given.4);
-      marked = reached;
-    };
+    follows = follows_more old new atoms more reached sound.follows;
     equal = sound.equal;
     alike = sound.alike;
     terms = λ t within. subst (λ z. IsBacked atoms (owner owners t) (term_at z t).symbol (term_at z t).args) (sym more.terms)
@@ -70,7 +73,7 @@ marks_underway old new owners atoms more reached (sound, is) = (
       args = subst (λ b. map (root b) (term_at old.terms t).args ≡ map (root b) (term_at old.terms m).args) more.bindings
           (subst (λ z. map (root new.bindings) (term_at z t).args ≡ map (root new.bindings) (term_at z m).args) more.terms alike.args);
     }));
-    live = λ r t bound. same_names old new owners more (owner owners t) ∙ is.live r t (subst (λ b. binding_of b r ≡ Term t) more.bindings bound);
+    live = λ r t bound. same_names old new more (owner owners t) ∙ is.live r t (subst (λ b. binding_of b r ≡ Term t) more.bindings bound);
   },
 )
 
@@ -116,8 +119,8 @@ module _ (c : Contents) (owners : List ℕ) (atoms : List Flat) (shaped : IsShap
   pub same_class : (u v : ℕ) → Class atoms u v → name c u ≡ name c v
   same_class u v one = (names_classes atoms (name c) (closed_by c atoms equal held apart) is.0.follows.sound u v).0 one
 
-module _ (old new : Contents) (owners : List ℕ) (below : List Flat) (atom : Flat) (shaped : IsShaped old) (now_shaped : IsShaped new)
-    (settled : IsSettled old owners below) (is : IsUnderway new owners idle (below ++ atom ∷ [])) (later : (u : ℕ) → name new u ≡ name new (name old u))
+module _ (old new : Contents) (before owners : List ℕ) (below : List Flat) (atom : Flat) (shaped : IsShaped old) (now_shaped : IsShaped new)
+    (settled : IsSettled old before below) (is : IsUnderway new owners idle (below ++ atom ∷ [])) (later : (u : ℕ) → name new u ≡ name new (name old u))
     (starts : (r : ℕ) → IsFree old r → IsMarked old r → Firm new (name new r)) (said : (u : ℕ) → atom ≡ Finite u → Firm new (name new u)) where
   abbrev all : List Flat
   all = below ++ atom ∷ []

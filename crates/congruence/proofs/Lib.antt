@@ -1,3 +1,4 @@
+pub mod Asserts
 pub mod Atoms
 pub mod Begins
 pub mod Ending

@@ -20,9 +20,9 @@ MarksKeepFirm = (old new : Contents) (r : ℕ) → IsMoreMarked old new → Firm
 -- Where nothing waits, each class that had a mark is firm, and so is that of a variable that the atom says to be finite, the
 -- contents have settled the atom with the atoms that they had settled before.
 abbrev pub SettlesAgain : Type 0
-SettlesAgain = (old new : Contents) (owners : List ℕ) (below : List Flat) (atom : Flat) → IsShaped old → IsShaped new
-    → IsSettled old owners below → IsUnderway new owners idle (below ++ atom ∷ [])
+SettlesAgain = (old new : Contents) (owners more : List ℕ) (below : List Flat) (atom : Flat) → IsShaped old → IsShaped new
+    → IsSettled old owners below → IsUnderway new more idle (below ++ atom ∷ [])
     → ((u : ℕ) → name new u ≡ name new (name old u))
     → ((r : ℕ) → IsFree old r → IsMarked old r → Firm new (name new r))
     → ((u : ℕ) → atom ≡ Finite u → Firm new (name new u))
-    → IsSettled new owners (below ++ atom ∷ [])
+    → IsSettled new more (below ++ atom ∷ [])

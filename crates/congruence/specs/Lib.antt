@@ -1,4 +1,5 @@
 pub mod Agenda
+pub mod Asserted
 pub mod Begun
 pub mod Ends
 pub mod Merges

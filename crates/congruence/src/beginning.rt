@@ -26,7 +26,7 @@ fn has_shape(graph: &Graph, t: usize, symbol: Symbol, args: &Args) -> bool
 // The root, which is free, is bound to a new term with this symbol and these arguments, or waits for the owner of one that there is.
 fn give_term(
     graph: &mut Graph,
-    owners: &mut Places,
+    owners: &mut Vec<usize>,
     waiting: &mut Waiting,
     starts: &mut Places,
     u: usize,
@@ -34,12 +34,12 @@ fn give_term(
     args: &Args,
 ) -> Result<(), NoMemory>
     requires over { AtomOver (length graph.old.contents.bindings) (VarTerm u symbol args.now) }
-    requires owners { AreOwners graph.old.contents owners.old }
+    requires owners { AreOwners graph.old.contents owners.old.items }
     requires idle { (waiting.old ≡ idle) × (starts.old ≡ []) }
     requires free { IsFree graph.old.contents (name graph.old.contents u) }
     ensures grows { Grows graph.old graph.new }
-    ensures longer { IsLonger owners.old owners.new }
-    ensures begun { IfOk result (λ done. IsBegun graph.old.contents graph.new.contents owners.old owners.new waiting.new starts.new (VarTerm u symbol args.now)) }
+    ensures longer { IsLonger owners.old.items owners.new.items }
+    ensures begun { IfOk result (λ done. IsBegun graph.old.contents graph.new.contents owners.old.items owners.new.items waiting.new starts.new (VarTerm u symbol args.now)) }
 {
     graph.well_formed();
     let root = graph.deref(u);
@@ -57,17 +57,17 @@ fn give_term(
 // False where the atoms can't be solved with this one.
 pub(crate) fn begin(
     graph: &mut Graph,
-    owners: &mut Places,
+    owners: &mut Vec<usize>,
     waiting: &mut Waiting,
     starts: &mut Places,
     atom: &Flat,
 ) -> Result<bool, NoMemory>
     requires over { AtomOver (length graph.old.contents.bindings) atom.now }
-    requires owners { AreOwners graph.old.contents owners.old }
+    requires owners { AreOwners graph.old.contents owners.old.items }
     requires idle { (waiting.old ≡ idle) × (starts.old ≡ []) }
     ensures grows { Grows graph.old graph.new }
-    ensures longer { IsLonger owners.old owners.new }
-    ensures begun { IfOk result (λ begun. MatchBool begun (IsBegun graph.old.contents graph.new.contents owners.old owners.new waiting.new starts.new atom.now) (RefutesAtom graph.old.contents owners.old atom.now)) }
+    ensures longer { IsLonger owners.old.items owners.new.items }
+    ensures begun { IfOk result (λ begun. MatchBool begun (IsBegun graph.old.contents graph.new.contents owners.old.items owners.new.items waiting.new starts.new atom.now) (RefutesAtom graph.old.contents owners.old.items atom.now)) }
 {
     graph.well_formed();
     match atom {

@@ -19,16 +19,16 @@ use tree_model::Places;
 pub(crate) fn enter(
     alloc: Global,
     graph: &mut Graph,
-    owners: &mut Places,
+    owners: &mut Vec<usize>,
     starts: &mut Places,
     atom: &Flat,
 ) -> Result<bool, NoMemory>
     requires over { AtomOver (length graph.old.contents.bindings) atom.now }
-    requires owners { AreOwners graph.old.contents owners.old }
+    requires owners { AreOwners graph.old.contents owners.old.items }
     requires none { starts.old ≡ [] }
     ensures grows { Grows graph.old graph.new }
-    ensures longer { IsLonger owners.old owners.new }
-    ensures entered { IfOk result (λ entered. MatchBool entered (IsBegun graph.old.contents graph.new.contents owners.old owners.new idle starts.new atom.now) (RefutesAtom graph.old.contents owners.old atom.now)) }
+    ensures longer { IsLonger owners.old.items owners.new.items }
+    ensures entered { IfOk result (λ entered. MatchBool entered (IsBegun graph.old.contents graph.new.contents owners.old.items owners.new.items idle starts.new atom.now) (RefutesAtom graph.old.contents owners.old.items atom.now)) }
 {
     graph.well_formed();
     let mut waiting = Waiting::new(alloc);

@@ -5,6 +5,7 @@
 #![tactic(auto)]
 
 mod agenda;
+mod asserting;
 mod beginning;
 mod closing;
 mod entering;
@@ -12,6 +13,7 @@ mod laws;
 mod merging;
 mod noting;
 
+pub use asserting::assert;
 pub use laws::{end_laws, merge_laws, start_laws, turn_laws};
 
 #[cfg(test)]

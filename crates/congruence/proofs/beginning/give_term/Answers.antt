@@ -31,12 +31,12 @@ returns-clause-grows c = grows_on c.args.graph.now c.intern_term.new.self c.bind
 
 pub returns-then-t-len-clause-begun : goal.returns-then-t-len-clause-begun
 returns-then-t-len-clause-begun c =
-    gave_owner c.args.graph.now c.intern_term.new.self c.args.owners.now c.args.waiting.now c.equate.new.self c.args.starts.now c.args.u c.in_ok-t.t c.deref-root.result (slice_index c.as_slice-then-t-len.result.now c.in_ok-t.t) c.args.symbol c.args.args.now
+    gave_owner c.args.graph.now c.intern_term.new.self c.args.owners.now.items c.args.waiting.now c.equate.new.self c.args.starts.now c.args.u c.in_ok-t.t c.deref-root.result (slice_index c.as_slice-then-t-len.result.now c.in_ok-t.t) c.args.symbol c.args.args.now
     c.well_formed-2.ensures c.requires.owners c.requires.over.0 (omega (arith, c.if-t-len.true, c.len.ensures, c.requires.owners.counted)) (interned_by c.args.graph.now c.intern_term.new.self c.args.symbol c.as_slice.result.now c.args.args.now c.in_ok-t.t c.as_slice.ensures c.in_ok-t.ensures.ok) c.deref-root.ensures.root
-    (ap (λ (z : List ℕ). slice_index z c.in_ok-t.t) c.as_slice-then-t-len.ensures) c.requires.idle.0 c.requires.idle.1 c.in_ok-equate.ensures.ok
+    (ap (λ (z : List ℕ). slice_index z c.in_ok-t.t) c.as_slice-then-t-len.ensures.value) c.requires.idle.0 c.requires.idle.1 c.in_ok-equate.ensures.ok
 
 pub returns-clause-begun : goal.returns-clause-begun
 returns-clause-begun c =
-    gave_term c.args.graph.now c.intern_term.new.self c.bind.new.self c.args.owners.now c.push.new.self c.args.waiting.now c.args.starts.now c.watch.new.starts c.args.u c.in_ok-t.t c.deref-root.result c.args.symbol c.args.args.now
+    gave_term c.args.graph.now c.intern_term.new.self c.bind.new.self c.args.owners.now.items c.push.new.self.items c.args.waiting.now c.args.starts.now c.watch.new.starts c.args.u c.in_ok-t.t c.deref-root.result c.args.symbol c.args.args.now
     c.well_formed-2.ensures c.requires.owners c.requires.over.0 c.requires.over.1 c.requires.free (omega (arith, c.if-t-len.false, c.len.ensures, c.requires.owners.counted)) (interned_by c.args.graph.now c.intern_term.new.self c.args.symbol c.as_slice.result.now c.args.args.now c.in_ok-t.t c.as_slice.ensures c.in_ok-t.ensures.ok) c.deref-root.ensures.root
-    c.in_ok-push.ensures.ok c.requires.idle.1 c.in_ok-watch.ensures c.in_ok-bind.ensures.ok c.requires.idle.0
+    c.in_ok-push.ensures.items c.requires.idle.1 c.in_ok-watch.ensures c.in_ok-bind.ensures.ok c.requires.idle.0
