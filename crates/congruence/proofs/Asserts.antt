@@ -1,5 +1,5 @@
 -- Walks from what must be finite, and what is settled then.
-use Rattle.std.proofs.Common.{ℕ, zero, suc, ◌<◌, ◌+◌, ◌≡◌, Bool, true, false, List, [], ◌∷◌, ◌++◌, length, take, get_or, refl, sym, ◌∙◌, ap, subst, inl, inr, ◌⊎◌}
+use Rattle.std.proofs.Common.{ℕ, zero, suc, ◌<◌, ◌≤◌, ◌+◌, ◌≡◌, Bool, true, false, List, [], ◌∷◌, ◌++◌, length, take, get_or, refl, sym, ◌∙◌, ap, subst, inl, inr, ◌⊎◌, arith}
 use Rattle.std.specs.Prelude.{All, Contains, slice_index, slice_index_or, MatchBool, ◌↔◌}
 use Rattle.std.proofs.lemmas.List.{take_more}
 use Rattle.std.proofs.lemmas.List.Elements.{Contains-append_left, Contains-get_or}
@@ -7,11 +7,12 @@ use Rattle.tree_facts.proofs.Members.{contains_first, contains_later, contains_c
 use Rattle.flat_form.specs.declared.atom.Flat.{Flat}
 use Rattle.flat_form.specs.Classes.{itself, marked, Unsolvable}
 use Rattle.flat_facts.specs.Spread.{IsLeaf, IsLeastRound}
-use Rattle.term_graph.specs.Contents.{Contents, History, back_to, Grows, binding_of}
+use Rattle.term_graph.specs.Contents.{Contents, History, back_to, Grows, binding_of, target_of, term_at}
 use Rattle.settled_facts.specs.Settled.{name, IsFree, IsMarked, IsShaped, Firm, leaf, Follows, IsSettled}
 use Rattle.settled_facts.specs.Forms.{equations_of}
-use Rattle.settled_facts.specs.Changes.{IsMoreMarked}
-use Rattle.settled_facts.proofs.Terms.{name_free}
+use Rattle.settled_facts.specs.Changes.{IsMoreMarked, IsLater}
+use Rattle.settled_facts.proofs.Terms.{name_free, name_twice}
+use Rattle.settled_facts.proofs.Changing.{later_later}
 use Rattle.settled_facts.proofs.Equations.{equations_there}
 use Rattle.settled_facts.proofs.Solvable.{loop_unsolvable, leaves_reached}
 use Rattle.finiteness.specs.declared.spreading.Outcome.{Outcome}
@@ -35,6 +36,17 @@ more_more one two three a b = record {
 
 free_before : (old new : Contents) → IsMoreMarked old new → (r : ℕ) → IsFree new r → IsFree old r
 free_before old new more r free = ap (λ b. binding_of b r) (sym more.bindings) ∙ free
+
+later_marked : (old new : Contents) → IsShaped old → IsMoreMarked old new → IsLater old new
+later_marked old new shaped more = record {
+  variables = ap length more.bindings;
+  names = λ u. same_names old new more u ∙ sym (name_twice old shaped u) ∙ sym (same_names old new more (name old u));
+  roots = λ r stop. ap (λ b. target_of b r) (sym more.bindings) ∙ stop;
+  free = λ v free. free_before old new more (name old v) (subst (IsFree new) (same_names old new more v) free);
+  marks = more.marks;
+  count = subst (λ z. length old.terms ≤ length z) (sym more.terms) (omega arith);
+  terms = λ t w. ap (λ z. term_at z t) more.terms;
+}
 
 pub walked_none : (c : Contents) → AreWalked c c []
 walked_none c = record { more = more_none c; firm = λ s inside. absurd (contains_none s inside); follows = λ atoms follows finite. follows }
@@ -98,10 +110,11 @@ module _ (old mid : Contents) (owners more_owners starts : List ℕ) (atom : Fla
         (λ u e. walked.firm u (begun.said u e))
 
 -- all together
-pub asserted : (old mid new : Contents) (owners more_owners starts : List ℕ) (atom : Flat) → IsShaped old → IsShaped new → IsBegun old mid owners more_owners idle starts atom
+pub asserted : (old mid new : Contents) (owners more_owners starts : List ℕ) (atom : Flat) → IsShaped old → IsShaped mid → IsShaped new → IsBegun old mid owners more_owners idle starts atom
     → AreWalked mid new starts → IsLonger owners more_owners → IsAsserted old new owners more_owners atom
-asserted old mid new owners more_owners starts atom shaped now_shaped begun walked longer = record {
+asserted old mid new owners more_owners starts atom shaped mid_shaped now_shaped begun walked longer = record {
   settled = λ below settled. now_settled old mid owners more_owners starts atom begun below settled new walked shaped now_shaped;
+  later = later_later old mid new begun.later (later_marked mid new mid_shaped walked.more);
   owned = record {
     counted = begun.owned.counted ∙ ap length (sym walked.more.terms);
     within = λ t w. subst (λ z. slice_index_or more_owners t 0 < length z) (sym walked.more.bindings) (begun.owned.within t (subst (λ z. t < length z) walked.more.terms w));

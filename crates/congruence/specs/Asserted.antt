@@ -4,7 +4,7 @@ use Rattle.flat_form.specs.declared.atom.Flat.{Flat}
 use Rattle.flat_form.specs.Classes.{Reached, Unsolvable}
 use Rattle.term_graph.specs.Contents.{Contents}
 use Rattle.settled_facts.specs.Settled.{name, Firm, Follows, IsSettled}
-use Rattle.settled_facts.specs.Changes.{IsMoreMarked}
+use Rattle.settled_facts.specs.Changes.{IsMoreMarked, IsLater}
 use Rattle.congruence.specs.Turns.{AreOwners}
 use Rattle.congruence.specs.Begun.{IsLonger}
 
@@ -23,8 +23,9 @@ pub record AreWalked (old new : Contents) (starts : List ℕ) : Type 0 where
 abbrev pub ComeRound : Contents → List ℕ → Type 0
 ComeRound c starts = (atoms : List Flat) → Follows c atoms → MakeFinite atoms starts → Unsolvable atoms
 
--- What the contents had settled is settled with the atom.
+-- What the contents had settled is settled with the atom, and what they said is said still.
 pub record IsAsserted (old new : Contents) (owners owners_now : List ℕ) (atom : Flat) : Type 0 where
   pub settled : (below : List Flat) → IsSettled old owners below → IsSettled new owners_now (below ++ atom ∷ [])
+  pub later : IsLater old new
   pub owned : AreOwners new owners_now
   pub longer : IsLonger owners owners_now

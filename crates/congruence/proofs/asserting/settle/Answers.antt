@@ -39,5 +39,5 @@ returns-clause-settled c =
     let begun = held_by (IsBegun old mid owners more idle starts atom) (RefutesAtom old owners atom) c.in_ok-enter.field-0 c.if-not-branch.false c.in_ok-enter.ensures.entered in
     let walked = subst (λ (z : List ℕ). MatchBool c.in_ok-ended.ended (AreWalked mid new z) (ComeRound mid z)) c.as_slice.ensures c.in_ok-ended.ensures.walked in
     turned_to (AreWalked mid new starts) (ComeRound mid starts) (IsAsserted old new owners more atom) (RefutesAtom old owners atom) c.in_ok-ended.ended
-    (λ walks. asserted old mid new owners more starts atom (shaped_of old c.well_formed-2.ensures) (shaped_of new c.well_formed-4.ensures) begun walks c.in_ok-enter.ensures.longer)
+    (λ walks. asserted old mid new owners more starts atom (shaped_of old c.well_formed-2.ensures) (shaped_of mid c.well_formed-3.ensures) (shaped_of new c.well_formed-4.ensures) begun walks c.in_ok-enter.ensures.longer)
     (λ round. refutes old mid owners more starts atom begun round) walked
