@@ -8,9 +8,7 @@ use Rattle.flat_form.specs.declared.atom.Flat.{Flat}
 use Rattle.flat_form.specs.declared.atom.Flat.TheVariants.{VarVar, VarTerm, Finite}
 use Rattle.flat_form.specs.Classes.{Class, itself, Reached, marked, child}
 use Rattle.flat_facts.proofs.Names.{names_classes}
-use Rattle.term_graph.specs.declared.bound.Bound.{Bound}
 use Rattle.term_graph.specs.declared.bound.Bound.TheVariants.{Term}
-use Rattle.term_graph.specs.declared.term.Term.{Term as Made}
 use Rattle.term_graph.specs.Contents.{Contents, binding_of, term_at, root, HasKey}
 use Rattle.settled_facts.specs.Settled.{name, IsFree, IsMarked, IsShaped, HasTermIn, Firm, leaf, node, IsSettled}
 use Rattle.settled_facts.specs.Changes.{IsMoreMarked}

@@ -1,12 +1,12 @@
 -- A beginning, and turns until nothing waits.
-use Rattle.std.proofs.Common.{ℕ, zero, suc, ◌<◌, ◌≤◌, ◌≡◌, Bool, true, false, List, [], ◌∷◌, ◌++◌, length, take, refl, sym, ◌∙◌, ap, subst, inl, inr, ◌⊎◌, None, arith}
-use Rattle.std.specs.Prelude.{Contains, slice_index_or, MatchBool}
+use Rattle.std.proofs.Common.{ℕ, ◌≡◌, Bool, true, false, List, [], ◌∷◌, ◌++◌, length, sym, ◌∙◌, ap, subst, inl, inr, None, arith}
+use Rattle.std.specs.Prelude.{slice_index_or, MatchBool}
 use Rattle.std.proofs.lemmas.Bool.{cases_lt}
 use Rattle.std.proofs.lemmas.List.{get_or_past}
 use Rattle.flat_form.specs.declared.atom.Flat.{Flat}
 use Rattle.term_graph.specs.Contents.{Contents, target, target_of, IsWellFormed}
 use Rattle.term_graph.proofs.Forests.{root_of_root}
-use Rattle.settled_facts.specs.Settled.{name, IsFree, IsMarked}
+use Rattle.settled_facts.specs.Settled.{IsFree, IsMarked}
 use Rattle.settled_facts.proofs.Changing.{later_later}
 use Rattle.congruence.specs.Agenda.{Agenda, idle}
 use Rattle.congruence.specs.Turns.{LeadsOn, Refutes}

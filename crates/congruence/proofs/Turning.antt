@@ -17,7 +17,7 @@ use Rattle.std.proofs.lemmas.Map.Views.{Contains-from_any}
 use Rattle.std.specs.List.{AllByRecursion, IsDistinct as IsDistinctBy}
 use lib.Dec.{eqb}
 use Rattle.lists.specs.Distinct.{IsDistinct}
-use Rattle.settled_facts.specs.Settled.{name, IsFree, IsMarked, IsShaped}
+use Rattle.settled_facts.specs.Settled.{name, IsFree, IsMarked}
 use Rattle.settled_facts.proofs.Terms.{shaped_of, name_twice}
 use Rattle.settled_facts.proofs.ReadOff.{name_within}
 use Rattle.congruence.specs.declared.noting.Note.{Note}
