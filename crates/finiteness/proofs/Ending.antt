@@ -1,5 +1,5 @@
 -- What is told of a variable once the search from its target has ended.
-use Rattle.std.proofs.Common.{ℕ, ◌≡◌, ◌<◌, List, [], ◌∷◌, ◌++◌, length, ◌∙◌, subst, arith, inl, inr}
+use Rattle.std.proofs.Common.{ℕ, ◌≡◌, ◌<◌, List, [], ◌∷◌, ◌++◌, length, refl, ◌∙◌, subst, arith, inl, inr}
 use Rattle.std.specs.Prelude.{slice_index, Contains, ◌↔◌}
 use Rattle.std.proofs.lemmas.List.{get_or_default}
 use Rattle.std.proofs.lemmas.List.Elements.{Contains-get_or}
@@ -13,8 +13,17 @@ use Rattle.finiteness.specs.declared.search.Mark.{Mark}
 use Rattle.finiteness.specs.declared.search.Mark.TheVariants.{Done}
 use Rattle.finiteness.specs.Marks.{HasMark, IsMarked, IsLeafAt}
 use Rattle.finiteness.specs.Found.{IsClean, AreDone}
-use Rattle.finiteness.proofs.Standing.{in_list, one_term_place}
-use Rattle.finiteness.proofs.Walking.{lead_on, lead_one, one_target, bare_clean, bare_stays, settled_clean}
+use Rattle.finiteness.proofs.Standing.{in_list, one_term_place, one_target}
+use Rattle.finiteness.proofs.Chains.{lead_on, lead_one}
+
+-- no walk leaves a variable that has no term
+bare_clean : (basic : List Flat) (x last : ℕ) (path before : List ℕ) → Leads basic x path before last → ¬ HasTerm basic x → ¬ Contains before last
+bare_clean basic x last path before (stays y) none = λ i. omega (arith, i.1)
+bare_clean basic x last path before (goes y z s xs i p b stands within on) none = absurd (none (s, xs, stands))
+
+bare_stays : (basic : List Flat) (x last : ℕ) (path before : List ℕ) → Leads basic x path before last → ¬ HasTerm basic x → x ≡ last
+bare_stays basic x last path before (stays y) none = refl
+bare_stays basic x last path before (goes y z s xs i p b stands within on) none = absurd (none (s, xs, stands))
 
 module _ (basic : List Flat) (solved : IsSolved basic) (v start : ℕ) (target : IsTarget basic v start) where
   target_plain : (s : ℕ) → IsTarget basic v s → (r : ℕ) → ¬ Contains basic (VarVar s r)
@@ -56,7 +65,7 @@ module _ (basic : List Flat) (solved : IsSolved basic) (v start : ℕ) (target :
   -- the target's term is done
   module _ (marks : List Mark) (done : AreDone basic start marks) (started : IsMarked basic marks Done start) where
     pub done_none : (path : List ℕ) → ¬ ComesRound basic v path
-    done_none = none_round (settled_clean basic marks start done start (inr started))
+    done_none = none_round (done.clean start started)
 
     leaf_reached : (u : ℕ) → (place : ℕ) × IsLeafAt basic marks place u → IsLeaf basic v u
     leaf_reached u (place, leaf) =

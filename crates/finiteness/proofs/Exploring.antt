@@ -94,7 +94,10 @@ walking_begins c start within old visits none is once walk empty =
     λ w i. elim (key_met visits w i) [ inl b ↦ sym (only w Open b).0 | inr d ↦ sym (only w Done d).0 ] in
     subst (λ z. IsWalking c start visits z (record { class = start; argument = 0 })) (sym empty) (record {
       search = search_begins (equations_of c) Turn argument_of IsAt start (IsDone visits) (IsBegun visits) (record { class = start; argument = 0 }) refl refl
-          (λ w d. let e : Done ≡ Open = (only w Done d).1 in cc)
+          (record {
+            closed = λ u s xs stands d. absurd (let e : Done ≡ Open = (only u Done d).1 in cc);
+            ends = λ u d. absurd (let e : Done ≡ Open = (only u Done d).1 in cc);
+          })
           (λ w b. (only w Open b).0)
           (subst (λ z. IsBegun z start) (sym first) (begun_here [] start refl));
       reached = λ w i. subst (Reaches (equations_of c) start) (keys w i) ([], [], stays start);

@@ -6,7 +6,6 @@ pub mod Nexts
 pub mod Staging
 pub mod Exploring
 pub mod Reached
-pub mod Walking
 pub mod Searching
 pub mod Gathering
 pub mod Ending

@@ -1,44 +1,47 @@
--- What holds of a search at each turn, and how it goes on.
-use Rattle.std.proofs.Common.{ℕ, ◌≡◌, ◌<◌, ◌≤◌, ◌+◌, ◌*◌, List, [], ◌∷◌, ◌++◌, length, get_or, refl, sym, ap, ◌∙◌, subst, arith, inl, inr, ◌⊎◌}
+-- A search along the equations of a conjunction: what holds of it at each turn, and how it goes on.
+use Rattle.std.proofs.Common.{ℕ, ◌≡◌, ◌<◌, ◌≤◌, ◌+◌, ◌*◌, List, [], ◌∷◌, ◌++◌, length, map, get_or, refl, sym, ap, ◌∙◌, subst, arith, inl, inr, ◌⊎◌}
 use Rattle.std.specs.Prelude.{slice_index, slice_set, Contains, sum_by}
+use Rattle.std.proofs.lemmas.Bool.{cases_lt}
 use Rattle.std.proofs.lemmas.List.{length-set, length-append, length-replicate, get_or-replicate}
-use Rattle.std.proofs.lemmas.List.Elements.{Contains-append_left, Contains-push, Contains-push_cases}
+use Rattle.std.proofs.lemmas.List.Elements.{Contains-push}
 use Rattle.std.proofs.lemmas.List.Sums.{sum_by-set}
 use lib.ListN.{replicate}
 use Rattle.tree_model.specs.declared.tree.Symbol.{Symbol}
 use Rattle.flat_form.specs.declared.atom.Flat.{Flat}
 use Rattle.flat_form.specs.declared.atom.Flat.TheVariants.{VarTerm}
 use Rattle.flat_form.specs.Solved.{Ascends}
-use Rattle.lists.specs.Distinct.{IsDistinct}
-use Rattle.flat_facts.specs.Spread.{IsTarget, Leads, IsLeastRound}
+use Rattle.flat_facts.specs.Spread.{IsTarget, IsLeastRound}
 use Rattle.flat_facts.proofs.Lists.{one_each}
+use Rattle.settled_facts.specs.Ends.{ends}
 use Rattle.finiteness.specs.declared.search.Mark.{Mark}
 use Rattle.finiteness.specs.declared.search.Mark.TheVariants.{New, Open, Done}
 use Rattle.finiteness.specs.declared.search.Turn.{Turn}
-use Rattle.finiteness.specs.Places.{StandsAt, HasTermAt}
+use Rattle.finiteness.specs.Places.{HasTermAt}
 use Rattle.finiteness.specs.Marks.{HasMark, IsMarked, IsSettled, AllAreSettled, IsOnward}
-use Rattle.finiteness.specs.Found.{IsClean, AreDone}
-use Rattle.finiteness.proofs.Standing.{in_list, term_in, one_term_place}
+use Rattle.finiteness.specs.Found.{Reaches, AreDone}
+use Rattle.finiteness.proofs.Standing.{in_list, term_in, one_term_place, one_target}
 use Rattle.finiteness.proofs.Marking.{mark_read, one_marked, marked_here, marked_aside, marked_before}
-use Rattle.finiteness.proofs.Walking.{Chain, alone, turns, chain_leads, chain_kept, chain_back, chain_alone, LastTurn, distinct_push, distinct_front, arguments_of, over_clean, least_round}
+use Rattle.finiteness.proofs.Chains.{IsShown, HaveOneTerm, settled_clean}
+use Rattle.finiteness.proofs.Turning as turning
+use Rattle.finiteness.proofs.Turning.{IsTurn, search_leads, search_round, search_on, search_back, search_end, shown_more}
 
--- the walk at hand leads from the start to the top term, past settled arguments; its variables are those with an open mark
+abbrev argument_of : Turn → ℕ
+argument_of turn = turn.argument
+
+abbrev pub arguments_of : List Turn → List ℕ
+arguments_of walk = map argument_of walk
+
+abbrev IsAt : List Flat → Turn → ℕ → Type 0
+IsAt basic turn u = HasTermAt basic turn.place u
+
+-- the walk at hand leads to the top term, past settled arguments; its variables are those with an open mark
 pub record IsSearch (basic : List Flat) (start : ℕ) (marks : List Mark) (walk : List Turn) (top : Turn) : Type 0 where
   pub size : length marks ≡ length basic
-  pub done : AreDone basic start marks
-  pub front : List ℕ
-  pub last : ℕ
-  pub symbol : Symbol
-  pub xs : List ℕ
-  pub chain : Chain basic marks start walk front last
-  pub stands : StandsAt basic top.place (VarTerm last symbol xs)
-  pub passed : (i : ℕ) → i < top.argument → i < length xs → IsSettled basic marks (slice_index xs i)
-  pub apart : IsDistinct (front ++ last ∷ [])
-  pub opened : (w : ℕ) → IsMarked basic marks Open w → Contains (front ++ last ∷ []) w
-  pub on : (w : ℕ) → Contains (front ++ last ∷ []) w → IsMarked basic marks Open w
+  pub reached : (u : ℕ) → IsMarked basic marks Done u → Reaches basic start u
+  pub search : turning.IsSearch basic Turn argument_of (IsAt basic) start (IsSettled basic marks) (IsMarked basic marks Open) walk top
 
-lt_or_le : (m n : ℕ) → (m < n) ⊎ (n ≤ m)
-lt_or_le m n = grind arith
+one_term : (basic : List Flat) → Ascends basic → HaveOneTerm basic
+one_term basic up u s t xs ys i j = let e : VarTerm u s xs ≡ VarTerm u t ys = one_each basic up (VarTerm u s xs) (VarTerm u t ys) i j refl in cc
 
 -- an open one is not settled
 open_unsettled : (basic : List Flat) → Ascends basic → (marks : List Mark) (w : ℕ) → IsMarked basic marks Open w → ¬ IsSettled basic marks w
@@ -51,28 +54,32 @@ module _ (basic : List Flat) (up : Ascends basic) (marks : List Mark) (size : le
     within = let (s, xs, p) = here in omega (arith, size, p.0)
 
     -- a mark that is set on a term that is not done keeps what is settled
-    pub settled_kept : (old mark : Mark) → HasMark marks place old → ¬ (Done ≡ old) → (w : ℕ) → IsSettled basic marks w
+    settled_kept : (old mark : Mark) → HasMark marks place old → ¬ (Done ≡ old) → (w : ℕ) → IsSettled basic marks w
         → IsSettled basic (slice_set marks place mark) w
     settled_kept old mark h new w (inl none) = inl none
     settled_kept old mark h new w (inr d) = inr (marked_aside basic up marks place u mark here within Done w
         (λ e. new (one_marked basic up marks Done old u (subst (λ z. IsMarked basic marks Done z) e d) (place, here, h))) d)
 
-    -- where what is done stays so, and what is settled
-    same_done : (start : ℕ) (old : Mark) → HasMark marks place old → ¬ (Done ≡ old) → AreDone basic start marks
-        → AreDone basic start (slice_set marks place Open)
-    same_done start old h new done =
-        let back : (w : ℕ) → IsMarked basic (slice_set marks place Open) Done w → IsMarked basic marks Done w =
-        λ w m. elim (marked_before basic up marks place u Open here within Done w m) [
-          | inl e ↦ let differs : Done ≡ Open = e.1 in cc
-          | inr d ↦ d
-        ] in
+    -- where an open mark is set, what is done was done
+    done_before : (w : ℕ) → IsMarked basic (slice_set marks place Open) Done w → IsMarked basic marks Done w
+    done_before w m = elim (marked_before basic up marks place u Open here within Done w m) [
+      | inl e ↦ let differs : Done ≡ Open = e.1 in cc
+      | inr d ↦ d
+    ]
+
+    same_shown : (old : Mark) → HasMark marks place old → ¬ (Done ≡ old) → IsShown basic (IsSettled basic marks) → IsShown basic (IsSettled basic (slice_set marks place Open))
+    same_shown old h new shown =
+        let before : (w : ℕ) → IsSettled basic (slice_set marks place Open) w → IsSettled basic marks w =
+        λ w k. elim k [ inl none ↦ inl none | inr d ↦ inr (done_before w d) ] in
         record {
-          closed = λ w s xs stands m i l. settled_kept old Open h new (slice_index xs i) (done.closed w s xs stands (back w m) i l);
-          clean = λ w m. done.clean w (back w m);
-          reached = λ w m. done.reached w (back w m);
+          closed = λ w s xs stands k i l. settled_kept old Open h new (slice_index xs i) (shown.closed w s xs stands (before w k) i l);
+          ends = λ w k. shown.ends w (before w k);
         }
 
-  module _ (start : ℕ) (walk : List Turn) (top : Turn) (search : IsSearch basic start marks walk top) where
+  module _ (start : ℕ) (walk : List Turn) (top : Turn) (all : IsSearch basic start marks walk top) where
+    abbrev search : turning.IsSearch basic Turn argument_of (IsAt basic) start (IsSettled basic marks) (IsMarked basic marks Open) walk top
+    search = all.search
+
     last_open : IsMarked basic marks Open search.last
     last_open = search.on search.last (Contains-push search.front search.last)
 
@@ -81,24 +88,32 @@ module _ (basic : List Flat) (up : Ascends basic) (marks : List Mark) (size : le
       turn = record { place = top.place; argument = next.argument }
 
       abbrev further : ℕ
-      further = slice_index search.xs next.argument
+      further = slice_index search.here.1 next.argument
 
-      there : HasTermAt basic next.place further
-      there = (onward.leads search.last search.symbol search.xs search.stands).1
+      leads : (next.argument < length search.here.1) × HasTermAt basic next.place further
+      leads = onward.leads search.last search.here.0 search.here.1 search.here.2
 
-      by_one : Chain basic marks start (walk ++ turn ∷ []) (search.front ++ search.last ∷ []) further
-      by_one = turns walk search.front search.last search.symbol search.xs turn search.chain search.stands
-          (onward.leads search.last search.symbol search.xs search.stands).0
-          (λ i l. elim (lt_or_le i top.argument) [
-            | inl m ↦ search.passed i m (omega (arith, l, (onward.leads search.last search.symbol search.xs search.stands).0))
-            | inr m ↦ onward.passed search.last search.symbol search.xs search.stands i m l
-                (omega (arith, l, (onward.leads search.last search.symbol search.xs search.stands).0))
-          ])
+      turn_is : IsTurn basic Turn argument_of (IsAt basic) start (IsSettled basic marks) (IsMarked basic marks Open) walk top search turn further
+      turn_is =
+          let stands : Contains basic (VarTerm search.last search.here.0 search.here.1) = in_list basic top.place (VarTerm search.last search.here.0 search.here.1) search.here.2 in
+          record {
+            symbol = search.here.0;
+            xs = search.here.1;
+            stands = stands;
+            here = search.here;
+            within = leads.0;
+            further_is = refl;
+            passed = λ i l. elim (cases_lt i top.argument) [
+              | inl m ↦ search.passed search.here.0 search.here.1 stands i m (omega (arith, l, leads.0))
+              | inr m ↦ onward.passed search.last search.here.0 search.here.1 search.here.2 i m l (omega (arith, l, leads.0))
+            ];
+          }
 
       -- where the next term is open, this is the least walk that comes round
       pub turns_round : HasMark marks next.place Open → (v : ℕ) → IsTarget basic v start → IsLeastRound basic v (arguments_of (walk ++ turn ∷ []))
-      turns_round h v target = least_round basic up marks start search.done v target (walk ++ turn ∷ []) (search.front ++ search.last ∷ []) further by_one
-          search.apart (λ w i. open_unsettled basic up marks w (search.on w i)) (search.opened further (next.place, there, h))
+      turns_round h v target =
+          search_round basic Turn argument_of (IsAt basic) start (IsSettled basic marks) (IsMarked basic marks Open) walk top search (one_term basic up) (open_unsettled basic up marks) v target
+          (λ other t. one_target basic up v other start t target) turn further turn_is (next.place, leads.1, h)
 
       -- where it is new, the walk goes on to it
       pub turns_on : HasMark marks next.place New
@@ -106,120 +121,91 @@ module _ (basic : List Flat) (up : Ascends basic) (marks : List Mark) (size : le
       turns_on h =
           let after : List Mark = slice_set marks next.place Open in
           let new : ¬ (Done ≡ New) = λ e. cc in
-          let kept : (w : ℕ) → IsSettled basic marks w → IsSettled basic after w = settled_kept next.place further there New Open h new in
+          let kept : (w : ℕ) → IsSettled basic marks w → IsSettled basic after w = settled_kept next.place further leads.1 New Open h new in
           let fresh : ¬ IsMarked basic marks Open further =
-          λ m. let e : Open ≡ New = one_marked basic up marks Open New further m (next.place, there, h) in cc in
+          λ m. let e : Open ≡ New = one_marked basic up marks Open New further m (next.place, leads.1, h) in cc in
           record {
             size = length-set marks next.place Open ∙ size;
-            done = same_done next.place further there start New h new search.done;
-            front = search.front ++ search.last ∷ [];
-            last = further;
-            symbol = there.0;
-            xs = there.1;
-            chain = chain_kept basic marks after start kept (walk ++ turn ∷ []) (search.front ++ search.last ∷ []) further by_one;
-            stands = there.2;
-            passed = λ i l m. absurd (omega (arith, l));
-            apart = distinct_push (search.front ++ search.last ∷ []) further search.apart (λ i. fresh (search.on further i));
-            opened = λ w m. elim (marked_before basic up marks next.place further Open there (h.0) Open w m) [
-              | inl e ↦ subst (λ z. Contains ((search.front ++ search.last ∷ []) ++ further ∷ []) z) (sym e.0) (Contains-push (search.front ++ search.last ∷ []) further)
-              | inr d ↦ Contains-append_left (search.front ++ search.last ∷ []) (further ∷ []) w (search.opened w d)
-            ];
-            on = λ w i. elim (Contains-push_cases (search.front ++ search.last ∷ []) further w i) [
-              | inl j ↦ marked_aside basic up marks next.place further Open there (h.0) Open w
-                  (λ e. fresh (subst (λ z. IsMarked basic marks Open z) e (search.on w j))) (search.on w j)
-              | inr e ↦ subst (λ z. IsMarked basic after Open z) e (marked_here basic up marks next.place further Open there (h.0))
-            ];
+            reached = λ w d. all.reached w (done_before next.place further leads.1 w d);
+            search = search_on basic Turn argument_of (IsAt basic) start (IsSettled basic marks) (IsMarked basic marks Open) walk top search (IsSettled basic after) (IsMarked basic after Open)
+                (same_shown next.place further leads.1 New h new search.shown) kept turn (record { place = next.place; argument = 0 }) further turn_is leads.1 refl fresh
+                (λ w m. elim (marked_before basic up marks next.place further Open leads.1 h.0 Open w m) [ inl e ↦ inl e.0 | inr d ↦ inr d ])
+                (λ w m. marked_aside basic up marks next.place further Open leads.1 h.0 Open w (λ e. fresh (subst (λ z. IsMarked basic marks Open z) e m)) m)
+                (marked_here basic up marks next.place further Open leads.1 h.0);
           }
 
-    module _ (all : AllAreSettled basic marks top) where
+    module _ (settled : AllAreSettled basic marks top) where
       each : (s : Symbol) (ys : List ℕ) → Contains basic (VarTerm search.last s ys) → (i : ℕ) → i < length ys → IsSettled basic marks (slice_index ys i)
       each s ys stands i l =
-          let same : VarTerm search.last search.symbol search.xs ≡ VarTerm search.last s ys =
-          one_each basic up (VarTerm search.last search.symbol search.xs) (VarTerm search.last s ys)
-          (in_list basic top.place (VarTerm search.last search.symbol search.xs) search.stands) stands refl in
-          let args : search.xs ≡ ys = cc in
-          subst (λ zs. IsSettled basic marks (slice_index zs i)) args (
-          let m : i < length search.xs = omega (arith, l, ap length args) in
-          elim (lt_or_le i top.argument) [
-            | inl k ↦ search.passed i k m
-            | inr k ↦ all (i + 1) search.last search.symbol search.xs search.stands i k (omega arith) m
-          ])
-
-      here : HasTermAt basic top.place search.last
-      here = (search.symbol, search.xs, search.stands)
+          let same : search.here.1 ≡ ys =
+          one_term basic up search.last search.here.0 s search.here.1 ys (in_list basic top.place (VarTerm search.last search.here.0 search.here.1) search.here.2) stands in
+          elim (cases_lt i top.argument) [
+            | inl k ↦ search.passed s ys stands i k l
+            | inr k ↦ subst (λ (zs : List ℕ). IsSettled basic marks (slice_index zs i)) same
+                (settled (i + 1) search.last search.here.0 search.here.1 search.here.2 i k (omega arith) (omega (arith, l, ap length same)))
+          ]
 
       inside : top.place < length marks
-      inside = omega (arith, size, search.stands.0)
+      inside = omega (arith, size, search.here.2.0)
 
       top_open : HasMark marks top.place Open
-      top_open = let (q, t, h) = last_open in subst (λ z. HasMark marks z Open) (one_term_place basic up q top.place search.last t here) h
+      top_open = let (q, t, h) = last_open in subst (λ z. HasMark marks z Open) (one_term_place basic up q top.place search.last t search.here) h
 
       abbrev after : List Mark
       after = slice_set marks top.place Done
 
       kept : (w : ℕ) → IsSettled basic marks w → IsSettled basic after w
-      kept = let new : ¬ (Done ≡ Open) = λ e. cc in settled_kept top.place search.last here Open Done top_open new
+      kept = let new : ¬ (Done ≡ Open) = λ e. cc in settled_kept top.place search.last search.here Open Done top_open new
+
+      new : (w : ℕ) → IsSettled basic after w → (w ≡ search.last) ⊎ IsSettled basic marks w
+      new w (inl none) = inr (inl none)
+      new w (inr d) = elim (marked_before basic up marks top.place search.last Done search.here inside Done w d) [ inl e ↦ inl e.0 | inr m ↦ inr (inr m) ]
+
+      last_done : IsMarked basic after Done search.last
+      last_done = marked_here basic up marks top.place search.last Done search.here inside
+
+      now_reached : (u : ℕ) → IsMarked basic after Done u → Reaches basic start u
+      now_reached u m = elim (marked_before basic up marks top.place search.last Done search.here inside Done u m) [
+        | inl e ↦ subst (Reaches basic start) (sym e.0) (
+          arguments_of walk,
+          search.front,
+          search_leads basic Turn argument_of (IsAt basic) start (IsSettled basic marks) (IsMarked basic marks Open) walk top search,
+        )
+        | inr d ↦ all.reached u d
+      ]
+
+      shown_now : IsShown basic (IsSettled basic after)
+      shown_now =
+          shown_more basic Turn argument_of (IsAt basic) start (IsSettled basic marks) (IsMarked basic marks Open) walk top search (IsSettled basic after) (IsMarked basic after Open) kept new each
 
       -- with the top term done, what is done is closed and clean, and reached
       pub done_more : AreDone basic start after
       done_more = record {
-        closed = λ u s xs stands m i l. kept (slice_index xs i) (elim (marked_before basic up marks top.place search.last Done here inside Done u m) [
-          | inl e ↦ each s xs (subst (λ z. Contains basic (VarTerm z s xs)) e.0 stands) i l
-          | inr d ↦ search.done.closed u s xs stands d i l
-        ]);
-        clean = λ u m. elim (marked_before basic up marks top.place search.last Done here inside Done u m) [
-          | inl e ↦ subst (λ z. IsClean basic z) (sym e.0)
-              (λ path front last lead. over_clean basic marks start search.done search.last last path front lead each (open_unsettled basic up marks search.last last_open))
-          | inr d ↦ search.done.clean u d
-        ];
-        reached = λ u m. elim (marked_before basic up marks top.place search.last Done here inside Done u m) [
-          | inl e ↦ (
-            arguments_of walk,
-            search.front,
-            subst (λ z. Leads basic start (arguments_of walk) search.front z) (sym e.0) (chain_leads basic marks start walk search.front search.last search.chain),
-          )
-          | inr d ↦ search.done.reached u d
-        ];
+        closed = λ u s xs stands m i l. shown_now.closed u s xs stands (inr m) i l;
+        clean = λ u m path before last lead. settled_clean basic (IsSettled basic after) shown_now u last path before lead (inr m);
+        reached = now_reached;
       }
 
       -- the walk goes back to its last turn
       pub turns_back : (shorter : List Turn) (at : Turn) → walk ≡ shorter ++ at ∷ [] → IsSearch basic start after shorter at
-      turns_back shorter at e =
-          let old : LastTurn basic marks start shorter at search.front =
-          chain_back basic marks start walk search.front search.last search.chain shorter at e in
-          let parts : IsDistinct search.front × (¬ Contains search.front search.last) = distinct_front search.front search.last search.apart in
-          record {
-            size = length-set marks top.place Done ∙ size;
-            done = done_more;
-            front = old.front;
-            last = old.u;
-            symbol = old.symbol;
-            xs = old.xs;
-            chain = chain_kept basic marks after start kept shorter old.front old.u old.chain;
-            stands = old.stands;
-            passed = λ i l m. kept (slice_index old.xs i) (old.passed i l);
-            apart = subst (λ z. IsDistinct z) old.before_is parts.0;
-            opened = λ w m. elim (marked_before basic up marks top.place search.last Done here inside Open w m) [
+      turns_back shorter at e = record {
+        size = length-set marks top.place Done ∙ size;
+        reached = now_reached;
+        search = search_back basic Turn argument_of (IsAt basic) start (IsSettled basic marks) (IsMarked basic marks Open) walk top search (IsSettled basic after) (IsMarked basic after Open)
+            kept new each
+            (λ w m. elim (marked_before basic up marks top.place search.last Done search.here inside Open w m) [
               | inl f ↦ let differs : Open ≡ Done = f.1 in cc
-              | inr d ↦ elim (Contains-push_cases search.front search.last w (search.opened w d)) [
-                | inl i ↦ subst (λ z. Contains z w) old.before_is i
-                | inr f ↦
-                    let differs : Open ≡ Done = one_marked basic up after Open Done search.last (subst (λ z. IsMarked basic after Open z) (sym f) m)
-                    (marked_here basic up marks top.place search.last Done here inside) in
-                    cc
-              ]
-            ];
-            on = λ w i.
-                let j : Contains search.front w = subst (λ z. Contains z w) (sym old.before_is) i in
-                marked_aside basic up marks top.place search.last Done here inside Open w (λ f. parts.1 (subst (λ z. Contains search.front z) f j))
-                (search.on w (Contains-append_left search.front (search.last ∷ []) w j));
-          }
+              | inr d ↦ (d, λ f. let differs : Open ≡ Done = one_marked basic up after Open Done search.last (subst (λ z. IsMarked basic after Open z) f m) last_done in cc)
+            ])
+            (λ w m n. marked_aside basic up marks top.place search.last Done search.here inside Open w n m)
+            (one_term basic up) shorter at e;
+      }
 
       -- with no turn left, the start is done
       pub turns_end : walk ≡ [] → IsMarked basic after Done start
       turns_end e =
-          subst (λ z. IsMarked basic after Done z) (sym (chain_alone basic marks start walk search.front search.last search.chain e))
-          (marked_here basic up marks top.place search.last Done here inside)
+          subst (λ z. IsMarked basic after Done z)
+          (sym (search_end basic Turn argument_of (IsAt basic) start (IsSettled basic marks) (IsMarked basic marks Open) walk top search e)) last_done
 
 -- at first
 module _ (basic : List Flat) (up : Ascends basic) (place start : ℕ) (here : HasTermAt basic place start) where
@@ -241,24 +227,14 @@ module _ (basic : List Flat) (up : Ascends basic) (place start : ℕ) (here : Ha
       λ w m. let differs : Done ≡ Open = (back Done (λ e. cc) w m).1 in cc in
       record {
         size = length-set new_marks place Open ∙ length-replicate (length basic) New;
-        done = record {
-          closed = λ u s xs stands m i l. absurd (none_done u m);
-          clean = λ u m. absurd (none_done u m);
-          reached = λ u m. absurd (none_done u m);
-        };
-        front = [];
-        last = start;
-        symbol = here.0;
-        xs = here.1;
-        chain = alone;
-        stands = here.2;
-        passed = λ i l m. absurd (omega (arith, l));
-        apart = (λ i. omega (arith, i.1), tt);
-        opened = λ w m. subst (λ z. Contains (start ∷ []) z) (sym (back Open (λ e. cc) w m).0) (Contains-push [] start);
-        on = λ w i. elim (Contains-push_cases [] start w i) [
-          | inl j ↦ absurd (omega (arith, j.1))
-          | inr e ↦ subst (λ z. IsMarked basic (slice_set new_marks place Open) Open z) e (marked_here basic up new_marks place start Open here within)
-        ];
+        reached = λ u m. absurd (none_done u m);
+        search = turning.search_begins basic Turn argument_of (IsAt basic) start (IsSettled basic (slice_set new_marks place Open)) (IsMarked basic (slice_set new_marks place Open) Open)
+            (record { place = place; argument = 0 }) here refl
+            (record {
+              closed = λ u s xs stands k i l. elim k [ inl none ↦ absurd (none (s, xs, stands)) | inr d ↦ absurd (none_done u d) ];
+              ends = λ u k. elim k [ inl none ↦ ends u (λ s xs stands i l. absurd (none (s, xs, stands))) | inr d ↦ absurd (none_done u d) ];
+            })
+            (λ w m. (back Open (λ e. cc) w m).0) (marked_here basic up new_marks place start Open here within);
       }
 
 -- how many marks are new
@@ -288,7 +264,7 @@ read_new marks p x w e a b = mark_read marks p x New w e (is_left x a (λ d. b (
 module _ (basic : List Flat) (marks : List Mark) (walk : List Turn) (top next : Turn) where
   -- the next term's place is one of the conjunction
   pub next_within : (start : ℕ) → IsSearch basic start marks walk top → IsOnward basic marks top next → next.place < length basic
-  next_within start search onward = (onward.leads search.last search.symbol search.xs search.stands).1.2.0
+  next_within start all onward = (onward.leads all.search.last all.search.here.0 all.search.here.1 all.search.here.2).1.2.0
 
   pub less_on : (longer : List Turn) (x : Turn) → HasMark marks next.place New → longer ≡ walk ++ x ∷ []
       → 2 * count_new (slice_set marks next.place Open) + length longer < 2 * count_new marks + length walk

@@ -9,6 +9,7 @@ use Rattle.flat_form.specs.declared.atom.Flat.TheVariants.{VarVar, VarTerm}
 use Rattle.flat_form.specs.Solved.{variable_of, Ascends, HasTerm}
 use Rattle.flat_form.proofs.Shapes.{rises_from}
 use Rattle.flat_facts.specs.Spread.{IsTarget}
+use Rattle.flat_facts.proofs.Lists.{one_each}
 use Rattle.finiteness.specs.Places.{StandsAt, HasTermAt}
 
 pub stands_read : (xs : List Flat) (i : ℕ) (a : Flat) → slice_get xs i ≡ Some a → StandsAt xs i a
@@ -88,3 +89,10 @@ module _ (xs : List Flat) (v n : ℕ) (a : Flat) (f : IsFirst xs v n a) where
 
   pub no_term : ((s : Symbol) (ys : List ℕ) → ¬ (a ≡ VarTerm v s ys)) → ¬ HasTerm xs v
   no_term none = λ (s, ys, i). none s ys (only_first (VarTerm v s ys) i refl)
+
+-- a variable has one target
+pub one_target : (basic : List Flat) → Ascends basic → (v a b : ℕ) → IsTarget basic v a → IsTarget basic v b → a ≡ b
+one_target basic up v a b (inl p) (inl q) = let e : VarVar v a ≡ VarVar v b = one_each basic up (VarVar v a) (VarVar v b) p q refl in cc
+one_target basic up v a b (inl p) (inr q) = absurd (q.1 a p)
+one_target basic up v a b (inr p) (inl q) = absurd (p.1 b q)
+one_target basic up v a b (inr p) (inr q) = sym p.0 ∙ q.0

@@ -28,10 +28,10 @@ module _ (basic : List Flat) (Turn : Type 0) (argument : Turn → ℕ) (IsAt : T
       → Leads basic start (map argument walk) search.front search.last
   search_leads Settled Open walk top search = chain_leads basic Turn argument IsAt Settled start walk search.front search.last search.chain
 
-  pub search_begins : (Settled Open : ℕ → Type 0) (top : Turn) → IsAt top start → argument top ≡ 0 → ((w : ℕ) → ¬ Settled w)
+  pub search_begins : (Settled Open : ℕ → Type 0) (top : Turn) → IsAt top start → argument top ≡ 0 → IsShown basic Settled
       → ((w : ℕ) → Open w → w ≡ start) → Open start → IsSearch Settled Open [] top
-  search_begins Settled Open top here first none only standing = record {
-    shown = record { closed = λ u s xs stands h. absurd (none u h); ends = λ u h. absurd (none u h) };
+  search_begins Settled Open top here first shown only standing = record {
+    shown = shown;
     front = [];
     last = start;
     chain = alone;

@@ -1,5 +1,5 @@
 //! Whether walks from a variable come round, and where they end.
-ghost use Rattle.std.specs.Prelude.{◌≡◌, ℕ, ◌<◌, List, [], ◌∷◌, length, All, IfOk, OnOk, OnErr, ◌↔◌, ◌⊎◌, Contains};
+ghost use Rattle.std.specs.Prelude.{◌≡◌, ℕ, ◌<◌, List, [], ◌∷◌, length, All, MatchBool, IfOk, OnOk, OnErr, ◌↔◌, ◌⊎◌, Contains};
 ghost use Rattle.std.specs.List.Sorted.{IsStrictlyIncreasing};
 ghost use Rattle.flat_form.specs.Solved.{IsSolved};
 ghost use Rattle.flat_facts.specs.Spread.{ComesRound, IsLeastRound, IsLeaf};
@@ -68,6 +68,18 @@ pub enum Outcome {
     Loop(Places),
 }
 
+// Whether the class has no term.
+fn is_free(graph: &Graph, class: usize) -> bool
+    requires { class < length graph.now.contents.bindings }
+    ensures { MatchBool result (IsFree graph.now.contents class) (¬ IsFree graph.now.contents class) }
+{
+    match graph.binding(class) {
+        Bound::Free => true,
+        Bound::Variable(_) => false,
+        Bound::Term(_) => false,
+    }
+}
+
 // Marks those of the classes that have no term.
 fn mark_leaves(graph: &mut Graph, visits: &IndexMap<usize, Stage>) -> Result<(), NoMemory>
     requires { All (λ class. class < length graph.old.contents.bindings) (keys_of visits.now.entries) }
@@ -78,7 +90,7 @@ fn mark_leaves(graph: &mut Graph, visits: &IndexMap<usize, Stage>) -> Result<(),
     graph.well_formed();
     for place in 0..visits.len() {
         let class = class_at(visits, place);
-        if let Bound::Free = graph.binding(class) {
+        if is_free(graph, class) {
             graph.mark_finite(class)?;
         }
     }

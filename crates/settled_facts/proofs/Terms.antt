@@ -1,6 +1,6 @@
 -- Terms that roots are bound to, and names.
-use Rattle.std.proofs.Common.{ℕ, ◌≡◌, ◌<◌, List, map, length, get_or, refl, sym, ap, ◌∙◌, subst, arith, inl, inr, ◌⊎◌}
-use Rattle.std.specs.Prelude.{slice_index, Contains, Some, None}
+use Rattle.std.proofs.Common.{ℕ, ◌≡◌, ◌<◌, List, map, length, refl, sym, ap, ◌∙◌, subst, arith}
+use Rattle.std.specs.Prelude.{slice_index, Some, None}
 use Rattle.std.proofs.lemmas.List.{get_or-map, length-map}
 use Rattle.std.proofs.lemmas.Grind.{same_number_lists}
 use Rattle.tree_model.specs.declared.tree.Symbol.{Symbol}
@@ -9,7 +9,7 @@ use Rattle.flat_form.specs.Classes.{Class, joined, turned}
 use Rattle.term_graph.specs.declared.bound.Bound.{Bound}
 use Rattle.term_graph.specs.declared.bound.Bound.TheVariants.{Free, Variable, Term}
 use Rattle.term_graph.specs.declared.term.Term.{Term as Made}
-use Rattle.term_graph.specs.Contents.{Contents, binding_of, target, target_of, root, IsForest, HasKey, term_at, IsWellFormed}
+use Rattle.term_graph.specs.Contents.{Contents, binding_of, target, target_of, root, HasKey, term_at, IsWellFormed}
 use Rattle.term_graph.proofs.Forests.{root_of_root}
 use Rattle.settled_facts.specs.Settled.{name, IsFree, IsMarked, IsShaped, HasTermIn, Firm, leaf, node, Follows}
 

@@ -8,8 +8,7 @@ use Rattle.finiteness.specs.declared.search.Mark.{Mark}
 use Rattle.finiteness.specs.declared.search.Mark.TheVariants.{New, Open, Done}
 use Rattle.finiteness.specs.Marks.{HasMark, AllAreSettled, IsOnward}
 use Rattle.finiteness.proofs.Marking.{mark_read}
-use Rattle.finiteness.proofs.Walking.{arguments_of}
-use Rattle.finiteness.proofs.Searching.{IsSearch, search_begins, next_within, turns_on, turns_round, turns_back, turns_end, done_more, read_new, less_on, less_back}
+use Rattle.finiteness.proofs.Searching.{IsSearch, arguments_of, search_begins, next_within, turns_on, turns_round, turns_back, turns_end, done_more, read_new, less_on, less_back}
 use Rattle.finiteness.proofs.search.search.Goals as goal
 
 pub loop-next-init : goal.loop-next-init
@@ -28,7 +27,7 @@ loop-next-init c =
 
 pub onward-requires-clause-within : goal.onward-requires-clause-within
 onward-requires-clause-within c =
-    let (s, t) = c.loop-next.invariant.some in (c.loop-next.invariant.search s t).stands.0
+    let (s, t) = c.loop-next.invariant.some in (c.loop-next.invariant.search s t).search.here.2.0
 
 -- the next turn, over the marks as they stand
 onward_is : (basic : List Flat) (now marks : List Mark) (top next : Turn) → now ≡ marks → IsOnward basic now top next → IsOnward basic marks top next
@@ -110,7 +109,7 @@ settled_is basic now marks top e all = subst (λ (z : List Mark). AllAreSettled 
 pub index_mut-requires-in-None : goal.index_mut-requires-in-None
 index_mut-requires-in-None c =
     let (s, t) = c.loop-next.invariant.some in
-    omega (arith, (c.loop-next.invariant.search s t).stands.0, c.loop-next.invariant.size)
+    omega (arith, (c.loop-next.invariant.search s t).search.here.2.0, c.loop-next.invariant.size)
 
 pub loop-next-smaller : goal.loop-next-smaller
 loop-next-smaller c =
@@ -119,7 +118,7 @@ loop-next-smaller c =
     let marks = c.loop-next.marks.items in
     let walk = c.loop-next.walk.items in
     let top = c.loop-next.top in
-    let within : top.place < length marks = omega (arith, (c.loop-next.invariant.search s t).stands.0, c.loop-next.invariant.size) in
+    let within : top.place < length marks = omega (arith, (c.loop-next.invariant.search s t).search.here.2.0, c.loop-next.invariant.size) in
     less_back basic marks walk top top c.pop.new.self.items c.in-Some-pop.turn within c.in-Some-pop.ensures.items
 
 pub loop-next-preserved : goal.loop-next-preserved
