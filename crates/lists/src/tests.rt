@@ -3,7 +3,7 @@ use std::test::*;
 
 #[test]
 fn a_list_grows_and_is_copied(rt: HostRuntime) -> Result<(), Fail> {
-    let mut list = List::new(rt.alloc());
+    let mut list = List::with_capacity(rt.alloc(), 1)?;
     assert_eq!(rt; list.len(), 0);
     for item in [7, 9] {
         assert_eq!(rt; list.push(item), Ok(()));
