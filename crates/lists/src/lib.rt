@@ -78,6 +78,13 @@ impl<T> List<T> {
         self.items.as_slice()
     }
 
+    /// The items themselves. It takes no memory.
+    pub fn into_items(self) -> Vec<T>
+        ensures { result.items ≡ self }
+    {
+        self.items
+    }
+
     /// How many items there are. It takes no memory.
     pub fn len(&self) -> usize
         ensures { result ≡ length self.now }

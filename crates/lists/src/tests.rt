@@ -11,5 +11,6 @@ fn a_list_grows_and_is_copied(rt: HostRuntime) -> Result<(), Fail> {
     let copy: List<usize> = list.copy(rt.alloc())?;
     assert_eq!(rt; copy.as_slice(), [7, 9].as_slice());
     assert_eq!(rt; *copy.get(1), 9);
+    assert_eq!(rt; copy.into_items().as_slice(), [7, 9].as_slice());
     Ok(())
 }
