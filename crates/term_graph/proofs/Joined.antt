@@ -11,12 +11,14 @@ use Rattle.term_graph.specs.declared.change.Change.{Change}
 use Rattle.term_graph.specs.declared.change.Change.TheVariants.{Joined}
 use Rattle.term_graph.specs.Contents.{History, grown, each, root, target_of, binding_of, Leads, uses_at, joined_uses, with_binding}
 use Rattle.term_graph.specs.Contents.Step.{BoundAt}
+use Rattle.term_graph.specs.Classes.{alone, class_at, together, merged}
 use Rattle.term_graph.specs.Noting.{IsJoined, joining}
 use Rattle.term_graph.specs.Fields.{history, Fields, free, slot_at, bound_to, rebound, seen, undone, put_back, bindings_of, heads_of, owners_of, mentions_of, uses_seen, uses_in}
 use Rattle.term_graph.specs.Good.{IsGood, AreGood, Fits}
 use Rattle.term_graph.proofs.Forests.{leads_open, leads_root}
 use Rattle.term_graph.proofs.Joining.{uses-joined, uses-others}
 use Rattle.term_graph.proofs.Marking.{map-set_kept}
+use Rattle.term_graph.proofs.Measuring.{measured_joined}
 use Rattle.term_graph.proofs.Reading.{each-same, each-at}
 use Rattle.term_graph.proofs.Restoring.{kept-back}
 use Rattle.term_graph.proofs.Trailing.{AreGood-now, AreGood-pushed, history-pushed}
@@ -37,7 +39,7 @@ module _ (f : Fields) (g : IsGood f) (v to w : ℕ) (l : v < length f.slots) (m 
   hw = get_or (heads_of f.slots) w 0
 
   abbrev now : Fields
-  now = record { slots = rebound v (Variable to) f.slots; terms = f.terms; cells = f.cells; next = exchanged hw hv f.next; entries = f'.entries; lowered = f'.lowered }
+  now = record { slots = rebound v (Variable to) f.slots; classes = merged v w f.classes; terms = f.terms; cells = f.cells; next = exchanged hw hv f.next; entries = f'.entries; lowered = f'.lowered }
 
   b-is : length b ≡ length f.slots
   b-is = length-map f.slots (λ s. s.binding)
@@ -69,6 +71,14 @@ module _ (f : Fields) (g : IsGood f) (v to w : ℕ) (l : v < length f.slots) (m 
   hwl : hw < length f.next
   hwl = (g.ringed.head w wb).0
 
+  classes-back : set (merged v w f.classes) w (class_at f.classes w) ≡ f.classes
+  unfolding merged
+  classes-back = set-set f.classes w (together (class_at f.classes v) (class_at f.classes w)) (class_at f.classes w) ∙ set-get_or f.classes w (alone 0)
+
+  w_in : w < length (merged v w f.classes)
+  unfolding merged
+  w_in = rw (length-set, g.measured.count) wb
+
   undone-joined : undone (Joined (joining v w f)) f' ≡ f
   undone-joined =
       let a : slot_at now.slots v ≡ bound_to (Variable to) (slot_at f.slots v) = get_or-set_same f.slots v (bound_to (Variable to) (slot_at f.slots v)) (free 0) l in
@@ -76,10 +86,10 @@ module _ (f : Fields) (g : IsGood f) (v to w : ℕ) (l : v < length f.slots) (m 
       let e : exchanged hw hv (exchanged hw hv f.next) ≡ f.next = exchanged-twice hw hv f.next hwl hvl in
       let back : put_back (length f.entries) (length f.lowered) f'.entries f'.lowered ≡ f.entries = kept-back f.entries f'.entries f.lowered f'.lowered h.kept in
       let first : take (length f.lowered) f'.lowered ≡ f.lowered = h.kept.first (length f.lowered) (omega arith) ∙ take_all (length f.lowered) f.lowered (omega arith) in
-      ap (undone (Joined (joining v w f))) h.same ∙ rw (a, k, e, back, first) refl
+      ap (undone (Joined (joining v w f))) h.same ∙ rw (a, k, classes-back, e, back, first) refl
 
   fits-joined : Fits (Joined (joining v w f)) f'
-  fits-joined = subst (Fits (Joined (joining v w f))) (sym h.same) (rw length-set l, rw length-exchanged hwl, rw length-exchanged hvl, h.kept.count)
+  fits-joined = subst (Fits (Joined (joining v w f))) (sym h.same) (rw length-set l, w_in, rw length-exchanged hwl, rw length-exchanged hvl, h.kept.count)
 
   bound-now : (u s : ℕ) → binding_of (set b v (Variable to)) u ≡ Term s → s < length f.terms
   bound-now u s e = elim (cases_eq u v) [
@@ -90,6 +100,7 @@ module _ (f : Fields) (g : IsGood f) (v to w : ℕ) (l : v < length f.slots) (m 
   good-joined : IsGood now
   good-joined = record {
     ringed = rw (b-now, heads-now) (ringed_joined b heads (owners_of f.cells) f.next g.ringed v to w vb tb wb o wo apart x);
+    measured = rw (b-now, heads-now) (measured_joined b heads (owners_of f.cells) f.next g.ringed f.classes g.measured v to w vb tb wb o wo apart x);
     mentioned = rw heads-now g.mentioned;
     shared = rw b-now h.shared;
     bound = rw b-now bound-now;

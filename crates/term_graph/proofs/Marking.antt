@@ -20,6 +20,7 @@ map-set_kept f xs i d y l k =
 pub good_as : (f : Fields) (slots : List Slot) → bindings_of slots ≡ bindings_of f.slots → heads_of slots ≡ heads_of f.slots → IsGood f → IsGood (with_slots slots f)
 good_as f slots b h g = record {
   ringed = rw (b, h) g.ringed;
+  measured = rw (b, h) g.measured;
   mentioned = rw h g.mentioned;
   shared = rw b g.shared;
   bound = rw b g.bound;

@@ -13,6 +13,7 @@ use Rattle.term_graph.specs.Contents.Step.{BoundAt}
 use Rattle.term_graph.specs.Fields.{Fields, free, slot_at, with_slots, bound_to, rebound, seen, undone, history, bindings_of, heads_of, mentions_of, uses_seen, uses_in, used, round_of}
 use Rattle.term_graph.specs.Good.{IsGood, AreGood}
 use Rattle.term_graph.proofs.Marking.{map-set_kept}
+use Rattle.term_graph.proofs.Measuring.{same-measured}
 use Rattle.term_graph.proofs.Reading.{each-same}
 use Rattle.term_graph.proofs.Ringing.{same-ringed, same-root}
 use Rattle.term_graph.proofs.Sharing.{same-shared}
@@ -61,6 +62,7 @@ module _ (f : Fields) (v t : ℕ) (l : v < length f.slots) (o : binding_of (bind
   good-termed : IsGood f → IsGood (with_slots now_slots f)
   good-termed g = record {
     ringed = rw (b-now, heads-now) (same-ringed b (set b v (Term t)) (heads_of f.slots) _ f.next same-length same-target g.ringed);
+    measured = rw (b-now, heads-now) (same-measured b (set b v (Term t)) (heads_of f.slots) f.next f.classes same-length same-target (same-root b (set b v (Term t)) (heads_of f.slots) [] f.next same-length same-target) g.measured);
     mentioned = rw heads-now g.mentioned;
     shared = rw b-now (same-shared b (set b v (Term t)) f.terms f.entries same-length same-target (same-root b (set b v (Term t)) (heads_of f.slots) [] f.next same-length same-target) g.shared);
     bound = rw b-now (bound-now g);

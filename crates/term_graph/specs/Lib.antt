@@ -1,3 +1,4 @@
+pub mod Classes
 pub mod Contents
 pub mod Fields
 pub mod Good

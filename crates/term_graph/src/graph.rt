@@ -41,7 +41,7 @@ impl Model for Graph {
 }
 
 impl Graph {
-    ghost use Rattle.term_graph.specs.Contents.{empty, grown, with_variable, marked, back_to, IsGrown, root, binding_of, Leads, IsInterned, IsLeader, term_at, with_binding, root_then, MayBind, target_of, AreUsers, IsWellFormed};
+    ghost use Rattle.term_graph.specs.Contents.{empty, grown, with_variable, marked, back_to, IsGrown, root, binding_of, Leads, IsInterned, IsLeader, term_at, with_binding, root_then, MayBind, target_of, AreUsers, IsWeight, IsWellFormed};
     ghost use Rattle.term_graph.specs.Contents.Step.{Grew, BoundAt};
 
     /// No variable and no term. It takes no memory.
@@ -52,6 +52,7 @@ impl Graph {
             alloc,
             parts: Parts {
                 slots: Vec::new(alloc),
+                classes: Vec::new(alloc),
                 terms: Vec::new(alloc),
                 cells: Vec::new(alloc),
                 rings: Rings::new(alloc),
@@ -157,6 +158,15 @@ impl Graph {
     {
         let root = self.deref(v);
         parts::users(alloc, &self.parts, root)
+    }
+
+    /// How many variables have the root of v, and how many mentions there are of these, together. It takes no memory.
+    pub fn weight(&self, v: usize) -> usize
+        requires { v < length self.now.contents.bindings }
+        ensures { IsWeight self.now.contents v result }
+    {
+        let root = self.deref(v);
+        self.parts.classes[root].weight
     }
 
     /// How many variables there are. It takes no memory.

@@ -3,6 +3,7 @@
 
 mod bound;
 mod change;
+mod class;
 mod graph;
 mod key;
 mod parts;
