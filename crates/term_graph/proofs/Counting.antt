@@ -9,7 +9,7 @@ use Rattle.term_graph.specs.declared.bound.Bound.{Bound}
 use Rattle.term_graph.specs.declared.parts.Mention.{Mention}
 use Rattle.term_graph.specs.declared.class.Class.{Class}
 use Rattle.term_graph.specs.Classes.{class_at}
-use Rattle.term_graph.specs.Contents.{History, root, target_of, uses_at, AreMembers, IsWeight}
+use Rattle.term_graph.specs.Contents.{History, root, target_of, uses_at, AreMembers, IsLeast, IsWeight}
 use Rattle.term_graph.specs.Fields.{Fields, seen, history, noted, used, uses_in, uses_seen, bindings_of, heads_of, owners_of, mentions_of}
 use Rattle.term_graph.specs.Good.{AreRinged, AreMentioned, IsClass, IsGood, AreGood}
 use Rattle.term_graph.specs.declared.change.Change.{Change}
@@ -162,3 +162,19 @@ module _ (cs : List Change) (f : Fields) (h : History) (v r : ℕ) (a : AreGood 
   weight_read x xe =
       subst (λ (z : History). IsWeight z.contents v x.weight) e
       (subst (IsWeight (seen f) v) (sym (ap (λ z. z.weight) (kept_is x xe))) (weight_counted f (AreGood-now cs f a) v v_slot))
+
+  pub least_read : (x : Class) → x ≡ get_or f.classes r x → IsLeast h.contents v x.least
+  least_read x xe =
+      let g = AreGood-now cs f a in
+      let b = bindings_of f.slots in
+      let p : r ≡ root (bindings_of f.slots) v = re ∙ sym (ap (λ (z : History). root z.contents.bindings v) e) in
+      let k : x.least ≡ (class_at f.classes (root (bindings_of f.slots) v)).least = ap (λ z. z.least) (kept_is x xe) in
+      let l = r_in f g v v_slot in
+      let o = g.ringed.forest.ends v in
+      subst (λ (z : History). IsLeast z.contents v x.least) e (record {
+        same = ap (root (bindings_of f.slots)) k ∙ g.measured.same (root (bindings_of f.slots) v) l o;
+        least = λ u i. (let m = g.measured.least (root (bindings_of f.slots) v) u l o i in omega arith);
+      })
+
+  pub least_in : (x : Class) → x ≡ get_or f.classes r x → x.least < length h.contents.bindings
+  least_in x xe = let k = (least_read x xe).least v refl in omega arith

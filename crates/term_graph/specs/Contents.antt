@@ -122,6 +122,11 @@ pub record AreUsers (bindings : List Bound) (terms : List Made) (r : ℕ) (list 
   pub distinct : IsDistinct list
   pub each : (t : ℕ) → Contains list t ↔ ((t < length terms) × Contains (map (root bindings) (term_at terms t).args) r)
 
+-- l is the least variable with the root of v
+pub record IsLeast (c : Contents) (v l : ℕ) : Type 0 where
+  pub same : root c.bindings l ≡ root c.bindings v
+  pub least : (u : ℕ) → root c.bindings u ≡ root c.bindings v → l ≤ u
+
 -- the variables with this root, each once
 pub record AreMembers (bindings : List Bound) (r : ℕ) (list : List ℕ) : Type 0 where
   pub distinct : IsDistinct list

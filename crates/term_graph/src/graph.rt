@@ -41,7 +41,7 @@ impl Model for Graph {
 }
 
 impl Graph {
-    ghost use Rattle.term_graph.specs.Contents.{empty, grown, with_variable, marked, back_to, IsGrown, root, binding_of, Leads, IsInterned, IsLeader, term_at, with_binding, root_then, MayBind, target_of, AreUsers, IsWeight, IsWellFormed};
+    ghost use Rattle.term_graph.specs.Contents.{empty, grown, with_variable, marked, back_to, IsGrown, root, binding_of, Leads, IsInterned, IsLeader, term_at, with_binding, root_then, MayBind, target_of, AreUsers, IsLeast, IsWeight, IsWellFormed};
     ghost use Rattle.term_graph.specs.Contents.Step.{Grew, BoundAt};
 
     /// No variable and no term. It takes no memory.
@@ -158,6 +158,16 @@ impl Graph {
     {
         let root = self.deref(v);
         parts::users(alloc, &self.parts, root)
+    }
+
+    /// The least variable with the root of v. It takes no memory.
+    pub fn least(&self, v: usize) -> usize
+        requires { v < length self.now.contents.bindings }
+        ensures within { result < length self.now.contents.bindings }
+        ensures least { IsLeast self.now.contents v result }
+    {
+        let root = self.deref(v);
+        self.parts.classes[root].least
     }
 
     /// How many variables have the root of v, and how many mentions there are of these, together. It takes no memory.
