@@ -10,7 +10,7 @@ use Rattle.term_graph.specs.declared.parts.Mention.{Mention}
 use Rattle.term_graph.specs.declared.class.Class.{Class}
 use Rattle.term_graph.specs.Classes.{class_at}
 use Rattle.term_graph.specs.Contents.{History, root, target_of, uses_at, AreMembers, IsLeast, IsWeight}
-use Rattle.term_graph.specs.Fields.{Fields, seen, history, noted, used, uses_in, uses_seen, bindings_of, heads_of, owners_of, mentions_of}
+use Rattle.term_graph.specs.Fields.{Fields, seen, history, noted, used, uses_in, uses_seen, round_of, bindings_of, heads_of, owners_of, mentions_of}
 use Rattle.term_graph.specs.Good.{AreRinged, AreMentioned, IsClass, IsGood, AreGood}
 use Rattle.term_graph.specs.declared.change.Change.{Change}
 use Rattle.term_graph.specs.declared.term.Term.{Term as Made}
@@ -178,3 +178,8 @@ module _ (cs : List Change) (f : Fields) (h : History) (v r : ℕ) (a : AreGood 
 
   pub least_in : (x : Class) → x ≡ get_or f.classes r x → x.least < length h.contents.bindings
   least_in x xe = let k = (least_read x xe).least v refl in omega arith
+
+  pub uses_read : (list : List ℕ) → list ≡ used (mentions_of f.cells) (round_of f.next (get_or (heads_of f.slots) r 0)) → list ≡ uses_at h.contents v
+  uses_read list le =
+      let p : r ≡ root (bindings_of f.slots) v = re ∙ sym (ap (λ (z : History). root z.contents.bindings v) e) in
+      le ∙ ap (λ z. used (mentions_of f.cells) (round_of f.next (get_or (heads_of f.slots) z 0))) p ∙ sym (seen_uses f v v_slot) ∙ ap (λ (z : History). uses_at z.contents v) e

@@ -25,3 +25,4 @@ pub mod Trailing
 pub mod Using
 pub mod Walking
 pub mod Weighing
+pub mod Yielding

@@ -5,3 +5,4 @@ pub mod Good
 pub mod Keys
 pub mod Lowering
 pub mod Noting
+pub mod Walks

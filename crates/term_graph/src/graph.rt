@@ -4,6 +4,7 @@ ghost use Rattle.std.specs.Prelude.{All, ℕ, map, ◌≡◌, ◌≢◌, ◌<◌
 use crate::Bound;
 use crate::change::Change;
 use crate::parts::{self, Parts, binding_at, root_of};
+use crate::uses::{Uses, uses_of};
 use flat_form::Args;
 use index_lists::Rings;
 use indexmap::IndexMap;
@@ -41,7 +42,7 @@ impl Model for Graph {
 }
 
 impl Graph {
-    ghost use Rattle.term_graph.specs.Contents.{empty, grown, with_variable, marked, back_to, IsGrown, root, binding_of, Leads, IsInterned, IsLeader, term_at, with_binding, root_then, MayBind, target_of, AreUsers, IsLeast, IsWeight, IsWellFormed};
+    ghost use Rattle.term_graph.specs.Contents.{empty, grown, with_variable, marked, back_to, IsGrown, root, binding_of, Leads, IsInterned, IsLeader, term_at, with_binding, root_then, MayBind, target_of, uses_at, AreUsers, IsLeast, IsWeight, IsWellFormed};
     ghost use Rattle.term_graph.specs.Contents.Step.{Grew, BoundAt};
 
     /// No variable and no term. It takes no memory.
@@ -158,6 +159,15 @@ impl Graph {
     {
         let root = self.deref(v);
         parts::users(alloc, &self.parts, root)
+    }
+
+    /// The terms that mention a variable with the root of v, once per mention. It takes no memory.
+    pub fn uses(&self, v: usize) -> Uses<'_>
+        requires { v < length self.now.contents.bindings }
+        ensures { result ≡ uses_at self.now.contents v }
+    {
+        let root = self.deref(v);
+        uses_of(&self.parts, root)
     }
 
     /// The least variable with the root of v. It takes no memory.

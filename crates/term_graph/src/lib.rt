@@ -8,10 +8,12 @@ mod graph;
 mod key;
 mod parts;
 mod term;
+mod uses;
 
 pub use bound::Bound;
 pub use graph::{Graph, Mark};
 pub use term::Term;
+pub use uses::Uses;
 
 #[cfg(test)]
 mod tests;

@@ -158,8 +158,8 @@ pub fn binding_at(slots: &Vec<Slot>, at: usize) -> Bound
     slots[at].binding
 }
 
-// The own cell of the variable.
-fn head_at(slots: &Vec<Slot>, at: usize) -> usize
+/// The own cell of the variable.
+pub fn head_at(slots: &Vec<Slot>, at: usize) -> usize
     requires { at < length slots.now.items }
     ensures { result ≡ slice_index (heads_of slots.now.items) at }
 {
