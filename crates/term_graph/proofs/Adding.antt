@@ -153,7 +153,7 @@ module _ (cs ds : List Change) (f f' : Fields) (p : ds ≡ cs ++ Added ∷ []) (
   pub added-good : AreGood (reverse cs) f → AreGood (reverse ds) f'
   added-good h =
       let g = AreGood-now (reverse cs) f h in
-      rw q (AreGood-pushed cs ds Added f (added f) p (undone-added f g) (good-added f g) (fits-added f g) h)
+      rw q (AreGood-pushed cs ds Added f (added f) p (undone-added f g) (good-added f g) (fits-added f g) (seen-added f g) h)
 
   pub added-is : AreGood (reverse cs) f → history (reverse ds) f' ≡ grown Grew (with_variable (seen f)) (history (reverse cs) f)
   added-is h =

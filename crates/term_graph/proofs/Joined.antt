@@ -2,20 +2,21 @@
 use Rattle.std.proofs.Common.{◌≡◌, ◌≢◌, ℕ, ◌<◌, true, false, List, [], ◌∷◌, ◌++◌, length, take, set, get_or, refl, sym, ◌∙◌, ap, subst, inl, inr, None, map, arith, length-set, get_or-set_same, get_or-set_other}
 use Rattle.std.specs.Prelude.{Result, Ok, Err, OnOk, OnErr, reverse, cond, nat_eq, ◌||◌}
 use Rattle.std.proofs.lemmas.Bool.{cases_eq, eq-eqb, ne_eqb}
-use Rattle.std.proofs.lemmas.List.{set-set, set-get_or, map-set, length-map, take_all}
+use Rattle.std.proofs.lemmas.List.{set-set, set-get_or, map-set, get_or-map, length-map, take_all}
 use Rattle.index_lists.specs.Rings.{exchanged}
 use Rattle.index_lists.proofs.Exchanging.{exchanged-twice, length-exchanged}
 use Rattle.term_graph.specs.declared.bound.Bound.{Bound}
 use Rattle.term_graph.specs.declared.bound.Bound.TheVariants.{Free, Variable, Term}
 use Rattle.term_graph.specs.declared.change.Change.{Change}
 use Rattle.term_graph.specs.declared.change.Change.TheVariants.{Joined}
-use Rattle.term_graph.specs.Contents.{History, grown, each, root, target_of, binding_of, Leads, uses_at, joined_uses, with_binding}
+use Rattle.term_graph.specs.Contents.{History, grown, each, root, target_of, binding_of, Leads, IsLeast, uses_at, joined_uses, with_binding}
 use Rattle.term_graph.specs.Contents.Step.{BoundAt}
 use Rattle.term_graph.specs.Classes.{alone, class_at, together, merged}
 use Rattle.term_graph.specs.Noting.{IsJoined, joining}
 use Rattle.term_graph.specs.Fields.{history, Fields, free, slot_at, bound_to, rebound, seen, undone, put_back, bindings_of, heads_of, owners_of, mentions_of, uses_seen, uses_in}
+use Rattle.term_graph.specs.Told.{Tells, past_of}
 use Rattle.term_graph.specs.Good.{IsGood, AreGood, Fits}
-use Rattle.term_graph.proofs.Forests.{leads_open, leads_root}
+use Rattle.term_graph.proofs.Forests.{leads_open, leads_root, root_of_root}
 use Rattle.term_graph.proofs.Joining.{uses-joined, uses-others}
 use Rattle.term_graph.proofs.Marking.{map-set_kept}
 use Rattle.term_graph.proofs.Measuring.{measured_joined}
@@ -143,9 +144,29 @@ module _ (f : Fields) (g : IsGood f) (v to w : ℕ) (l : v < length f.slots) (m 
       let u : uses_seen now.slots now.cells now.next ≡ joined_uses v (root b to) (seen f) = uses-now ∙ ap (λ z. joined_uses v z (seen f)) r in
       cc
 
+  -- the least variable that is kept of a root
+  least_at : (r : ℕ) → r < length b → target_of b r ≡ None → IsLeast (seen f) r (class_at f.classes r).least
+  least_at r rl ro =
+      let e = root_of_root b r ro in
+      record { same = g.measured.same r rl ro ∙ sym e; least = λ u i. g.measured.least r u rl ro (i ∙ e) }
+
+  tells-joined : Tells (past_of (Joined (joining v w f))) (seen f) (seen f')
+  tells-joined = record {
+    to = to;
+    within = vb;
+    to_within = tb;
+    top = o;
+    leads = leads_root b x;
+    apart = apart;
+    was = sym (get_or-map (λ s. s.binding) f.slots v (free 0) Free l);
+    least = least_at v vb o;
+    root_least = least_at w wb wo;
+    is = ap seen h.same ∙ seen-joined;
+  }
+
   module _ (cs ds : List Change) (p : ds ≡ cs ++ Joined (joining v w f) ∷ []) where
     pub joined-good : AreGood (reverse cs) f → AreGood (reverse ds) f'
-    joined-good a = AreGood-pushed cs ds (Joined (joining v w f)) f f' p undone-joined (subst IsGood (sym h.same) good-joined) fits-joined a
+    joined-good a = AreGood-pushed cs ds (Joined (joining v w f)) f f' p undone-joined (subst IsGood (sym h.same) good-joined) fits-joined tells-joined a
 
     pub joined-is : history (reverse ds) f' ≡ grown (BoundAt v) (with_binding v (Variable to) (seen f)) (history (reverse cs) f)
     joined-is =

@@ -23,11 +23,12 @@ use Rattle.term_graph.specs.Contents.Step.{Interns}
 use Rattle.term_graph.specs.Classes.{class_at, weighed}
 use Rattle.term_graph.specs.Keys.{sign_of, is_key_of, shared_at}
 use Rattle.term_graph.specs.Fields.{Fields, made, mentions, mention_next, last_args, last_count, heads_of, owners_of, mentions_of, bindings_of, uses_in, uses_seen, seen, undone, history}
+use Rattle.term_graph.specs.Told.{HasTermMore}
 use Rattle.term_graph.specs.Good.{AreRinged, AreRoots, IsGood, AreGood, Fits, IsInternedIn}
 use Rattle.term_graph.proofs.Adding.{undone-pushed}
 use Rattle.term_graph.proofs.Forests.{root-within, leads_to_root}
 use Rattle.term_graph.proofs.Interning.{AreIn, cut_back, cells_back, ringed_mentions, owners-mentions, mentioned_made, shared_made, length-mentions, next_good, uses_with, uses_beside}
-use Rattle.term_graph.proofs.Keying.{all_each}
+use Rattle.term_graph.proofs.Keying.{all_each, all_at}
 use Rattle.term_graph.proofs.Measuring.{measured_mentions, room_for_mentions}
 use Rattle.term_graph.proofs.Reading.{each-same, each-at}
 use Rattle.term_graph.proofs.Ringing.{ringed_mention}
@@ -176,6 +177,15 @@ module _ (f : Fields) (g : IsGood f) where
         let c = count-made in
         (omega (arith, length_push f.terms term), omega (arith, length_push f.entries (key, length f.terms)), omega (arith, length-append f.cells (mentions (length f.terms) 0 keys), length-mentions (length f.terms) 0 keys), omega arith, rw args-made (all_each (λ r. r < length f.classes) (λ r. r < length (weighed keys f.classes)) (λ x l. rw (length-weighed keys f.classes) l) keys keys_in))
 
+    pub tells-made : HasTermMore (seen f) (seen now)
+    tells-made = record {
+      symbol = symbol;
+      keys = keys;
+      roots = λ i l. all_at (λ x. (x < length b) × (target_of b x ≡ None)) i keys l roots;
+      new = subst (IsLeader b f.terms symbol keys) absent (g.shared.leaders symbol keys roots);
+      is = seen-made;
+    }
+
 -- the call
 module _ (cs ds : List Change) (f f' : Fields) (symbol : Symbol) (keys : List ℕ) (t : ℕ) where
   pub interned-good : AreRoots (bindings_of f.slots) keys → length keys ≤ 8 → IsInternedIn f f' cs ds symbol keys t → AreGood (reverse cs) f → AreGood (reverse ds) f'
@@ -183,7 +193,7 @@ module _ (cs ds : List Change) (f f' : Fields) (symbol : Symbol) (keys : List �
   interned-good r n (inr s) h =
       let g = AreGood-now (reverse cs) f h in
       let k = s.2.0 in
-      rw s.2.3 (AreGood-pushed cs ds Interned f (made (record { symbol = symbol; args = keys }) k f) s.3 (undone-made f g symbol keys r k s.2.1 s.2.2 s.0) (good-made f g symbol keys r k s.2.1 s.2.2 s.0 n) (fits-made f g symbol keys r k s.2.1 s.2.2 s.0) h)
+      rw s.2.3 (AreGood-pushed cs ds Interned f (made (record { symbol = symbol; args = keys }) k f) s.3 (undone-made f g symbol keys r k s.2.1 s.2.2 s.0) (good-made f g symbol keys r k s.2.1 s.2.2 s.0 n) (fits-made f g symbol keys r k s.2.1 s.2.2 s.0) (tells-made f g symbol keys r k s.2.1 s.2.2 s.0) h)
 
   pub interned-is : (before : History) → AreRoots (bindings_of f.slots) keys → AreGood (reverse cs) f → history (reverse cs) f ≡ before
       → IsInternedIn f f' cs ds symbol keys t → IsInterned before (history (reverse ds) f') symbol keys t

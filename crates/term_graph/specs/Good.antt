@@ -13,7 +13,8 @@ use Rattle.term_graph.specs.declared.class.Class.{Class}
 use Rattle.term_graph.specs.Classes.{class_at}
 use Rattle.term_graph.specs.Contents.{IsForest, root, target_of, binding_of, term_at, IsLeader}
 use Rattle.term_graph.specs.Keys.{shared_at, sign_of}
-use Rattle.term_graph.specs.Fields.{Fields, bindings_of, heads_of, owners_of, mentions_of, round_of, undone, last_args, last_count, made}
+use Rattle.term_graph.specs.Told.{Tells, past_of}
+use Rattle.term_graph.specs.Fields.{Fields, bindings_of, heads_of, owners_of, mentions_of, round_of, seen, undone, last_args, last_count, made}
 use Rattle.index_lists.specs.Rings.{IsRound, IsInside}
 
 -- the ring of the root's own cell has exactly the cells of the variables with this root, and of the mentions of these
@@ -76,10 +77,10 @@ Fits (Termed v) f = v < length f.slots
 Fits (Joined j) f = (j.variable < length f.slots) × (j.root < length f.classes) × (j.cut.a < length f.next) × (j.cut.b < length f.next) × (j.lowered ≤ length f.lowered)
 Fits (Marked v) f = v < length f.slots
 
--- the fields are good now and at each earlier length
+-- the fields are good now and at each earlier length, and each change tells what it did
 abbrev pub AreGood : List Change → Fields → Type 0
 AreGood [] f = IsGood f
-AreGood (c ∷ cs) f = IsGood f × Fits c f × AreGood cs (undone c f)
+AreGood (c ∷ cs) f = IsGood f × Fits c f × Tells (past_of c) (seen (undone c f)) (seen f) × AreGood cs (undone c f)
 
 -- on the fields: the least term with the symbol and the roots, and nothing is done; or a new one under a key that was not there
 abbrev pub IsInternedIn : Fields → Fields → List Change → List Change → Symbol → List ℕ → ℕ → Type 0

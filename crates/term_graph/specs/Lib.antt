@@ -5,4 +5,5 @@ pub mod Good
 pub mod Keys
 pub mod Lowering
 pub mod Noting
+pub mod Told
 pub mod Walks

@@ -1,9 +1,10 @@
 //! The graph: its contents now, and the moments of its trail.
-ghost use Rattle.std.specs.Prelude.{All, ℕ, map, ◌≡◌, ◌≢◌, ◌<◌, ◌≤◌, None, [], ◌∷◌, ◌++◌, length, IfOk, OnOk, OnErr, slice_index_or, false};
+ghost use Rattle.std.specs.Prelude.{All, ℕ, map, ◌≡◌, ◌≢◌, ◌<◌, ◌≤◌, None, [], ◌∷◌, ◌++◌, ◌+◌, length, IfOk, OnOk, OnErr, slice_index_or, false};
 
 use crate::Bound;
 use crate::change::Change;
 use crate::parts::{self, Parts, binding_at, root_of};
+use crate::past::{Past, tell};
 use crate::uses::{Uses, uses_of};
 use flat_form::Args;
 use index_lists::Rings;
@@ -44,6 +45,8 @@ impl Model for Graph {
 impl Graph {
     ghost use Rattle.term_graph.specs.Contents.{empty, grown, with_variable, marked, back_to, IsGrown, root, binding_of, Leads, IsInterned, IsLeader, term_at, with_binding, root_then, MayBind, target_of, uses_at, AreUsers, IsLeast, IsWeight, IsWellFormed};
     ghost use Rattle.term_graph.specs.Contents.Step.{Grew, BoundAt};
+    ghost use Rattle.term_graph.specs.Contents.{contents_at};
+    ghost use Rattle.term_graph.specs.Told.{Tells};
 
     /// No variable and no term. It takes no memory.
     pub fn new(alloc: Global) -> Graph
@@ -240,6 +243,14 @@ impl Graph {
         ensures { result.now ≡ (term_at self.now.contents.terms t).args }
     {
         &self.parts.terms[t].args
+    }
+
+    /// What the call did that made this moment of the trail. It takes no memory.
+    pub fn step(&self, moment: usize) -> Past
+        requires { moment < length self.now.trail }
+        ensures { Tells result (contents_at self.now.trail self.now.contents moment) (contents_at self.now.trail self.now.contents (moment + 1)) }
+    {
+        tell(self.trail[moment])
     }
 
     /// The length of the trail. It takes no memory.
