@@ -1,6 +1,6 @@
 -- The whole list of what is added, and when there is none.
 use Rattle.std.proofs.Common.{ℕ, zero, suc, ◌≡◌, ◌<◌, ◌+◌, Bool, true, false, List, [], ◌∷◌, ◌++◌, length, get_or, refl, sym, ap, ◌∙◌, subst, arith, rules, inl, inr, ◌⊎◌, Option, Some, None}
-use Rattle.std.specs.Prelude.{slice_index, All, Contains, IsSome}
+use Rattle.std.specs.Prelude.{slice_index, All, Contains, IsSome, IsTrue, MatchBool, ◌↔◌}
 use Rattle.std.proofs.lemmas.List.Elements.{All-contains, Contains-get_or, Contains-push_cases, Contains-push, Contains-append_left, All-from_get_or}
 use Rattle.tree_model.specs.declared.tree.Symbol.{Symbol}
 use Rattle.tree_model.specs.Signatures.{Signature, Alike}
@@ -9,8 +9,8 @@ use Rattle.tree_model.specs.Valuations.{Valuation}
 use Rattle.tree_facts.proofs.Members.{contains_first, contains_later}
 use Rattle.flat_form.specs.declared.atom.Flat.{Flat}
 use Rattle.flat_form.specs.declared.atom.Flat.TheVariants.{VarVar, VarTerm, Finite}
-use Rattle.flat_form.specs.Meanings.{AtomHolds, BasicHolds}
-use Rattle.flat_form.specs.Classes.{Class, itself, Reached, marked, child, Unsolvable, clash, loop}
+use Rattle.flat_form.specs.Meanings.{AtomHolds, BasicHolds, HasNone}
+use Rattle.flat_form.specs.Classes.{Class, itself, Reached, marked, child, Clashes, Unsolvable, clash, loop}
 use Rattle.flat_form.specs.Numbering.{AtomOver, BasicOver}
 use Rattle.flat_form.specs.Solved.{variable_of, Ascends}
 use Rattle.flat_form.specs.Added.{Adds, IsAdded}
@@ -22,7 +22,7 @@ use Rattle.flat_facts.proofs.Scopes.{class_apart, class_below, reached_below, te
 use Rattle.flat_facts.proofs.Follows.{over_below}
 use Rattle.basic_solver.specs.Names.{name_in, IsSound}
 use Rattle.basic_solver.specs.Flags.{AreClasses, Agrees, IsSet, IsStuck, IsFinished}
-use Rattle.basic_solver.specs.Outcomes.{with_found, IsLine, IsListed, IsFiniteDone}
+use Rattle.basic_solver.specs.Outcomes.{with_found, IsLine, IsListed, IsFiniteDone, IsEquation}
 use Rattle.basic_solver.proofs.Following.{named_class}
 use Rattle.basic_solver.proofs.Flagging.{set_moves}
 
@@ -92,13 +92,26 @@ module _ (names : List ℕ) (atoms : List Flat) where
     all_done (child {u} {w} s xs q i k l c) =
         set_moves names atoms classes done (slice_index xs k) w c (finished.0.down u s xs i (all_done q) k 0 l)
 
-  -- no clash and no round: the atoms can be solved
-  pub solvable : AreClasses names atoms → (done : List Bool) → IsFinished names atoms done → All (IsFiniteDone names done) atoms → ¬ Unsolvable atoms
-  solvable classes done finished finite (clash c) =
+  -- names that terms agree with have no clash
+  no_clash : AreClasses names atoms → ¬ Clashes atoms
+  no_clash classes c =
       c.differ (All-contains (Agrees names (VarTerm c.left c.left_symbol c.xs)) atoms (VarTerm c.right c.right_symbol c.ys)
       (All-contains (λ (atom : Flat). All (Agrees names atom) atoms) atoms (VarTerm c.left c.left_symbol c.xs) classes.agree c.left_stands) c.right_stands
       (class_named atoms (name_in names) classes.closed c.one_class))
+
+  -- no clash and no round: the atoms can be solved
+  pub solvable : AreClasses names atoms → (done : List Bool) → IsFinished names atoms done → All (IsFiniteDone names done) atoms → ¬ Unsolvable atoms
+  solvable classes done finished finite (clash c) = no_clash classes c
   solvable classes done finished finite (loop {v} r walk) = finished.0.no_round v (all_done classes done finished finite r) walk
+
+  -- equations reach nothing, so no clash is enough
+  none_reached : All IsEquation atoms → {v : ℕ} → ¬ Reached atoms v
+  none_reached equations (marked {u} {v} i c) = All-contains IsEquation atoms (Finite u) equations i
+  none_reached equations (child s xs q i k l c) = none_reached equations q
+
+  pub equations_solvable : AreClasses names atoms → All IsEquation atoms → ¬ Unsolvable atoms
+  equations_solvable classes equations (clash c) = no_clash classes c
+  equations_solvable classes equations (loop r walk) = none_reached equations r
 
   -- a solution has no clash
   pub solution_agrees : (σ : Signature) (e : Valuation σ) → BasicHolds e atoms → IsSound atoms names → All (λ (atom : Flat). All (Agrees names atom) atoms) atoms
@@ -155,6 +168,12 @@ module _ (names : List ℕ) (atoms : List Flat) where
           | inl q ↦ q
           | inr n ↦ absurd (holds_in e atoms (Finite u) holds i (λ b. endless b.0 u (All-contains (AtomOver (length names)) atoms (Finite u) over i) n b.1))
         ]
+
+-- whether all finite atoms' classes are done tells whether there is a solution
+pub done_tells : (told : Bool) (names : List ℕ) (atoms : List Flat) (done : List Bool) → IsTrue told ↔ All (IsFiniteDone names done) atoms → BasicOver (length names) atoms
+    → AreClasses names atoms → IsFinished names atoms done → MatchBool told (¬ Unsolvable atoms) (HasNone atoms)
+done_tells true names atoms done tells over classes finished = solvable names atoms classes done finished (tells.0 (search rules))
+done_tells false names atoms done tells over classes finished = λ σ e holds. absurd (cc (tells.1 (solution_done names atoms σ e holds classes over done finished)))
 
 -- the list, which is all that is added
 pub listed_added : (n : ℕ) (base atoms lines : List Flat) → BasicOver n atoms → ¬ Unsolvable atoms → IsListed n base atoms lines → IsAdded base atoms lines

@@ -39,6 +39,12 @@ IsFiniteDone names done (VarVar u r) = Unit {0}
 IsFiniteDone names done (VarTerm u symbol xs) = Unit {0}
 IsFiniteDone names done (Finite u) = IsSet names done u
 
+-- the atom does not say that a variable is finite
+abbrev pub IsEquation : Flat → Type 0
+IsEquation (VarVar u r) = Unit {0}
+IsEquation (VarTerm u symbol xs) = Unit {0}
+IsEquation (Finite u) = ⊥
+
 -- where the atom gives a variable a term, this has a flag
 abbrev pub with_lead : Flat → List Bool → List Bool
 with_lead (VarVar u r) leads = leads

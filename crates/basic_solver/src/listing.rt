@@ -1,13 +1,15 @@
 //! The atoms that are added to a base, read off the names of the classes.
-ghost use Rattle.std.specs.Prelude.{◌≡◌, ℕ, ◌<◌, List, length, map, IfOk, OnOk, IsTrue, ◌↔◌, All, Contains, Bool};
+ghost use Rattle.std.specs.Prelude.{◌≡◌, ℕ, ◌<◌, List, length, map, IfOk, OnOk, IsTrue, MatchBool, ◌↔◌, All, Contains, Bool};
 ghost use Rattle.flat_form.specs.declared.atom.Flat.{Flat};
+ghost use Rattle.flat_form.specs.Classes.{Unsolvable};
+ghost use Rattle.flat_form.specs.Meanings.{HasNone};
 ghost use Rattle.flat_form.specs.Numbering.{AtomOver, BasicOver};
 ghost use Rattle.flat_form.specs.Solved.{IsOpen, IsDirect};
 ghost use Rattle.flat_form.specs.Added.{IsAdded};
 ghost use Rattle.basic_solver.specs.Names.{name_in};
-ghost use Rattle.basic_solver.specs.Flags.{AreNames};
-ghost use Rattle.basic_solver.specs.Outcomes.{AreLeads, with_lead, IsFiniteDone, IsTermFor, IsTermLine, IsFiniteLine, with_found, AreTables, IsLine, IsListed, IsOutcome};
-ghost use Rattle.basic_solver.specs.Terms.{AreTerms};
+ghost use Rattle.basic_solver.specs.Flags.{AreNames, AreClasses};
+ghost use Rattle.basic_solver.specs.Outcomes.{AreLeads, with_lead, IsFiniteDone, IsEquation, IsTermFor, IsTermLine, IsFiniteLine, with_found, AreTables, IsLine, IsListed, IsOutcome};
+ghost use Rattle.basic_solver.specs.Terms.{AreTerms, HavePlaces};
 ghost use Rattle.basic_solver.specs.Bases.{with_bound, AreBound, with_said, AreSaid, AreSized};
 
 use crate::bases::{bound_by, leads_of, said_by};
@@ -138,7 +140,7 @@ fn lines(alloc: Global, names: &[usize], notes: &Notes, atoms: &Basic) -> Result
         → AreBound base notes.now.bound.items → AreSaid names.now base notes.now.said.items
         → IsListed (length names.now) base atoms.now lines) }
 {
-    let mut lines = Basic::new(alloc);
+    let mut lines = Basic::with_capacity(alloc, atoms.len())?;
     for v in 0..names.len() {
         let found = line(alloc, names, notes, atoms, v)?;
         push_found(&mut lines, found)?;
@@ -163,7 +165,7 @@ fn is_finite_done(names: &[usize], done: &[bool], atom: &Flat) -> bool
     }
 }
 
-// Whether no walk from a finite atom comes round.
+// Whether the class of each finite atom is done.
 fn are_finite(names: &[usize], done: &[bool], atoms: &Basic) -> bool
     requires names { AreNames names.now }
     requires size { length done.now ≡ length names.now }
@@ -176,6 +178,49 @@ fn are_finite(names: &[usize], done: &[bool], atoms: &Basic) -> bool
         }
     }
     true
+}
+
+// Whether the atom is an equation.
+fn is_equation(atom: &Flat) -> bool
+    ensures { IsTrue result ↔ IsEquation atom.now }
+{
+    match atom {
+        Flat::VarVar(_, _) => true,
+        Flat::VarTerm(_, _, _) => true,
+        Flat::Finite(_) => false,
+    }
+}
+
+// Whether each of the atoms is one.
+fn are_equations(atoms: &Basic) -> bool
+    ensures { IsTrue result ↔ All IsEquation atoms.now }
+{
+    for i in 0..atoms.len() {
+        if !is_equation(atoms.get(i)) {
+            return false;
+        }
+    }
+    true
+}
+
+// Whether no walk from a finite atom comes round, so that atoms without a clash have a solution.
+fn end_all(
+    alloc: Global,
+    names: &[usize],
+    terms: &[Option<usize>],
+    atoms: &Basic,
+) -> Result<bool, NoMemory>
+    requires names { AreNames names.now }
+    requires terms { length terms.now ≡ length names.now }
+    requires places { HavePlaces (length atoms.now) terms.now }
+    requires over { BasicOver (length names.now) atoms.now }
+    ensures { IfOk result (λ all. AreClasses names.now atoms.now → MatchBool all (¬ Unsolvable atoms.now) (HasNone atoms.now)) }
+{
+    if are_equations(atoms) {
+        return Ok(true);
+    }
+    let done = grounded(alloc, names, terms, atoms)?;
+    Ok(are_finite(names, done.as_slice(), atoms))
 }
 
 /// What the atoms add to the base, which is among them. None where they have no solution.
@@ -197,8 +242,7 @@ pub fn added(
         return Ok(None);
     }
     let terms = terms_of(alloc, names.as_slice(), atoms)?;
-    let done = grounded(alloc, names.as_slice(), terms.as_slice(), atoms)?;
-    if !are_finite(names.as_slice(), done.as_slice(), atoms) {
+    if !end_all(alloc, names.as_slice(), terms.as_slice(), atoms)? {
         return Ok(None);
     }
     let marks = reached(alloc, names.as_slice(), terms.as_slice(), atoms)?;

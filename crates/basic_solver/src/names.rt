@@ -12,7 +12,9 @@ use tree_model::NoMemory;
 pub(crate) fn apart(alloc: Global, count: usize) -> Result<Vec<usize>, NoMemory>
     ensures { IfOk result (λ names. (length names.items ≡ count) × ((v : ℕ) → name_in names.items v ≡ v)) }
 {
-    let mut names = Vec::new(alloc);
+    let Ok(mut names) = Vec::with_capacity(alloc, count) else {
+        return Err(NoMemory);
+    };
     for v in 0..count {
         if names.push(v).is_err() {
             return Err(NoMemory);

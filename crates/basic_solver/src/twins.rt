@@ -100,7 +100,9 @@ pub(crate) fn twins_of(
     let Ok(mut table) = HashMap::with_capacity(alloc, atoms.len()) else {
         return Err(NoMemory);
     };
-    let mut twins = Vec::new(alloc);
+    let Ok(mut twins) = Vec::with_capacity(alloc, atoms.len()) else {
+        return Err(NoMemory);
+    };
     for i in 0..atoms.len() {
         let j = twin(alloc, &mut table, names, atoms.get(i), i)?;
         let Ok(()) = twins.push(j) else {

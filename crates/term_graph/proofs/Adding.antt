@@ -11,11 +11,13 @@ use Rattle.term_graph.specs.declared.bound.Bound.TheVariants.{Free, Term}
 use Rattle.term_graph.specs.declared.parts.Mention.{Mention}
 use Rattle.term_graph.specs.declared.change.Change.{Change}
 use Rattle.term_graph.specs.declared.change.Change.TheVariants.{Added}
+use Rattle.term_graph.specs.Classes.{alone}
 use Rattle.term_graph.specs.Contents.{History, empty, grown, with_variable, each, root, binding_of, term_at}
 use Rattle.term_graph.specs.Contents.Step.{Grew}
 use Rattle.term_graph.specs.Fields.{Fields, added, free, own, seen, undone, history, bindings_of, heads_of, owners_of, mentions_of, uses_seen, uses_in, used}
 use Rattle.term_graph.specs.Good.{Fits, IsGood, AreGood, AreRinged}
 use Rattle.term_graph.proofs.Keying.{all_each}
+use Rattle.term_graph.proofs.Measuring.{measured_added}
 use Rattle.term_graph.proofs.Mentioning.{mentioned_added}
 use Rattle.term_graph.proofs.Reading.{round_is, used_more, each-same, push-same}
 use Rattle.term_graph.proofs.Ringing.{ringed_added, class_of, rest_within, rest_added, rest_new, root_in}
@@ -85,9 +87,10 @@ module _ (f : Fields) (g : IsGood f) where
   pub undone-added : undone Added (added f) ≡ f
   undone-added =
       let a = undone-pushed f.slots (free (length f.cells)) in
+      let k = undone-pushed f.classes (alone (length f.slots)) in
       let c = undone-pushed f.cells (own (length f.slots)) in
       let n = added_away f.next g.ringed.inside in
-      rw (a, c, n) refl
+      rw (a, k, c, n) refl
 
   ringed-more : AreRinged (b ++ Free ∷ []) (heads ++ length f.cells ∷ []) (owners ++ length f.slots ∷ []) (f.next ++ length f.next ∷ [])
   ringed-more = ringed_added b heads owners f.next g.ringed (length f.cells) (length f.slots) h-is o-is
@@ -95,13 +98,17 @@ module _ (f : Fields) (g : IsGood f) where
   heads_in : (v : ℕ) → v < length heads → get_or heads v 0 < length ms
   heads_in v l = (let k = (g.ringed.head v (rw g.ringed.variables at l)).0 in let e = g.mentioned.cells in let c = g.ringed.cells in omega arith)
 
+  owners_in : (c : ℕ) → c < length owners → get_or owners c 0 < length heads
+  owners_in c l = rw g.ringed.variables (g.ringed.owner c (rw g.ringed.cells at l))
+
   bound-more : (v t : ℕ) → binding_of (b ++ Free ∷ []) v ≡ Term t → t < length f.terms
   bound-more v t e = g.bound v t (sym (binding_more b v) ∙ e)
 
   pub good-added : IsGood (added f)
   good-added = record {
     ringed = rw (b-more, heads-more, owners-more) ringed-more;
-    mentioned = rw (heads-more, owners-more, ms-more) (mentioned_added heads owners f.terms ms g.mentioned (length f.cells) (length f.slots) m-is heads_in);
+    measured = rw (b-more, heads-more) (measured_added b heads owners f.next g.ringed f.classes g.measured (length f.cells) (length f.slots) h-is o-is);
+    mentioned = rw (heads-more, owners-more, ms-more) (mentioned_added heads owners f.terms ms g.mentioned (length f.cells) (length f.slots) m-is (o-is ∙ sym g.ringed.variables) heads_in owners_in);
     shared = rw b-more (shared_added b f.terms f.entries g.ringed.forest (args_in f g) g.shared);
     bound = rw b-more bound-more;
     few = g.few;
@@ -140,13 +147,13 @@ module _ (f : Fields) (g : IsGood f) where
       cc
 
   pub fits-added : Fits Added (added f)
-  fits-added = (omega (arith, length_push f.slots (free (length f.cells))), omega (arith, length_push f.cells (own (length f.slots))), omega (arith, length_push f.next (length f.next)))
+  fits-added = (omega (arith, length_push f.slots (free (length f.cells))), omega (arith, length_push f.classes (alone (length f.slots))), omega (arith, length_push f.cells (own (length f.slots))), omega (arith, length_push f.next (length f.next)))
 
 module _ (cs ds : List Change) (f f' : Fields) (p : ds ≡ cs ++ Added ∷ []) (q : f' ≡ added f) where
   pub added-good : AreGood (reverse cs) f → AreGood (reverse ds) f'
   added-good h =
       let g = AreGood-now (reverse cs) f h in
-      rw q (AreGood-pushed cs ds Added f (added f) p (undone-added f g) (good-added f g) (fits-added f g) h)
+      rw q (AreGood-pushed cs ds Added f (added f) p (undone-added f g) (good-added f g) (fits-added f g) (seen-added f g) h)
 
   pub added-is : AreGood (reverse cs) f → history (reverse ds) f' ≡ grown Grew (with_variable (seen f)) (history (reverse cs) f)
   added-is h =

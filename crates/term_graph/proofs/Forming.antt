@@ -21,3 +21,6 @@ args_within f g t l i d k = let e : length (bindings_of f.slots) ≡ length f.sl
 
 pub cell_within : (f : Fields) → IsGood f → (c : ℕ) → c < length f.next → c < length f.cells
 cell_within f g c l = let e : length (owners_of f.cells) ≡ length f.cells = length-map f.cells (λ x. x.variable) in let k = g.ringed.cells in omega arith
+
+pub cells_as : (f : Fields) → IsGood f → length f.cells ≡ length f.next
+cells_as f g = sym (length-map f.cells (λ x. x.variable)) ∙ g.ringed.cells

@@ -19,7 +19,7 @@ use Rattle.term_graph.specs.Fields.{Fields, mentions, mention_next, cut_off, hea
 use Rattle.term_graph.specs.Good.{AreRinged, IsClass, AreMentioned, IsShared, AreRoots}
 use Rattle.term_graph.proofs.Adding.{uses_is}
 use Rattle.term_graph.proofs.Forests.{root_of_root}
-use Rattle.term_graph.proofs.Keying.{key_tells, key_same, lookup_old, lookup_new, all_pushed, all_each, sign_once, true_or_false}
+use Rattle.term_graph.proofs.Keying.{key_tells, key_same, lookup_old, lookup_new, all_pushed, all_each, all_take, all_at, sign_once, true_or_false}
 use Rattle.term_graph.proofs.Mentioning.{mention_in}
 use Rattle.term_graph.proofs.Reading.{used_more}
 use Rattle.term_graph.proofs.Ringing.{ringed_mention, round_a, round_not_a, class_of, rest_within, root_in}
@@ -39,16 +39,6 @@ mentions-push t i (x ∷ xs) a =
 pub next-push : (heads as' next : List ℕ) (a : ℕ) → mention_next heads (as' ++ a ∷ []) next ≡ with_cell (get_or heads a 0) (mention_next heads as' next)
 next-push heads [] next a = refl
 next-push heads (x ∷ xs) next a = next-push heads xs (with_cell (get_or heads x 0) next) a
-
-pub all_take : {X : Type 0} (P : X → Type 0) (n : ℕ) (xs : List X) → AllByRecursion P xs → AllByRecursion P (take n xs)
-all_take P zero xs h = tt
-all_take P (suc n) [] h = tt
-all_take P (suc n) (x ∷ xs) h = (h.0, all_take P n xs h.1)
-
-pub all_at : (P : ℕ → Type 0) (i : ℕ) (xs : List ℕ) → i < length xs → AllByRecursion P xs → P (get_or xs i 0)
-all_at P i [] l h = absurd (omega arith)
-all_at P zero (x ∷ xs) l h = h.0
-all_at P (suc i) (x ∷ xs) l h = all_at P i xs (omega arith) h.1
 
 -- the own cells of these variables are cells
 abbrev pub AreIn : ℕ → List ℕ → ℕ → List ℕ → Type 0
@@ -216,7 +206,7 @@ pub whole_rings_back : (slots : List Slot) (n : ℕ) (as' initial rings : List �
 whole_rings_back slots n as' initial rings e inside h f = ap (cut_off n) f ∙ ap (λ k. cut_off k (mention_next (heads_of slots) as' initial)) e ∙ cut_back (length slots) (heads_of slots) as' initial inside h
 
 pub fields_as : (f : Fields) (terms : List Made) (cells : List Cell) (next : List ℕ) (entries : List (Key × ℕ)) → terms ≡ f.terms → cells ≡ f.cells
-    → next ≡ f.next → entries ≡ f.entries → record { slots = f.slots; terms = terms; cells = cells; next = next; entries = entries; lowered = f.lowered } ≡ f
+    → next ≡ f.next → entries ≡ f.entries → record { slots = f.slots; classes = f.classes; terms = terms; cells = cells; next = next; entries = entries; lowered = f.lowered } ≡ f
 fields_as f terms cells next entries o p q r = rw (o, p, q, r) refl
 
 pub keys_back : (es fs gs : List (Key × ℕ)) (e : Key × ℕ) (n : ℕ) → n ≡ length es → fs ≡ es ++ e ∷ [] → gs ≡ take n fs → gs ≡ es
@@ -322,10 +312,21 @@ module _ (heads owners : List ℕ) (terms : List Made) (ms : List (Option Mentio
     | inr p ↦ elim (old_or_new d m f) [ inl q ↦ absurd (let a = p.0 in let b = q.0 in omega arith) | inr q ↦ p.1 ∙ sym q.1 ]
   ]
 
+  bare_made : (c : ℕ) → c < length (owners ++ term.args) → get_or (ms ++ ns) c None ≡ None → get_or heads (get_or (owners ++ term.args) c 0) 0 ≡ c
+  bare_made c l e = elim (cases_lt c (length ms)) [
+    | inl s ↦ ap (λ z. get_or heads z 0) (old_owner c (rw (← g.cells) s)) ∙ g.bare c (rw (← g.cells) s) (sym (old_place c s) ∙ e)
+    | inr s ↦ (
+        let k : c - length ms < length term.args = omega (arith, l, length-append owners term.args, g.cells) in
+        let p : c ≡ length ms + (c - length ms) = omega arith in
+        let q : get_or (ms ++ ns) c None ≡ Some (record { term = length terms; place = c - length ms }) = ap (λ z. get_or (ms ++ ns) z None) p ∙ new_place (c - length ms) k in
+        absurd (cc))
+  ]
+
   pub mentioned_made : AreMentioned heads (owners ++ term.args) (terms ++ term ∷ []) (ms ++ mentions_of (mentions (length terms) 0 term.args))
   mentioned_made = record {
     cells = omega (arith, length-append ms ns, length-append owners term.args, ns-length, g.cells);
     own = λ v l. old_place (get_or heads v 0) (inside v l) ∙ g.own v l;
+    bare = bare_made;
     right = right_made;
     all = all_made;
     once = once_made;

@@ -2,21 +2,24 @@
 use Rattle.std.proofs.Common.{◌≡◌, ◌≢◌, ℕ, ◌<◌, true, false, List, [], ◌∷◌, ◌++◌, length, take, set, get_or, refl, sym, ◌∙◌, ap, subst, inl, inr, None, map, arith, length-set, get_or-set_same, get_or-set_other}
 use Rattle.std.specs.Prelude.{Result, Ok, Err, OnOk, OnErr, reverse, cond, nat_eq, ◌||◌}
 use Rattle.std.proofs.lemmas.Bool.{cases_eq, eq-eqb, ne_eqb}
-use Rattle.std.proofs.lemmas.List.{set-set, set-get_or, map-set, length-map, take_all}
+use Rattle.std.proofs.lemmas.List.{set-set, set-get_or, map-set, get_or-map, length-map, take_all}
 use Rattle.index_lists.specs.Rings.{exchanged}
 use Rattle.index_lists.proofs.Exchanging.{exchanged-twice, length-exchanged}
 use Rattle.term_graph.specs.declared.bound.Bound.{Bound}
 use Rattle.term_graph.specs.declared.bound.Bound.TheVariants.{Free, Variable, Term}
 use Rattle.term_graph.specs.declared.change.Change.{Change}
 use Rattle.term_graph.specs.declared.change.Change.TheVariants.{Joined}
-use Rattle.term_graph.specs.Contents.{History, grown, each, root, target_of, binding_of, Leads, uses_at, joined_uses, with_binding}
+use Rattle.term_graph.specs.Contents.{History, grown, each, root, target_of, binding_of, Leads, IsLeast, uses_at, joined_uses, with_binding}
 use Rattle.term_graph.specs.Contents.Step.{BoundAt}
+use Rattle.term_graph.specs.Classes.{alone, class_at, together, merged}
 use Rattle.term_graph.specs.Noting.{IsJoined, joining}
 use Rattle.term_graph.specs.Fields.{history, Fields, free, slot_at, bound_to, rebound, seen, undone, put_back, bindings_of, heads_of, owners_of, mentions_of, uses_seen, uses_in}
+use Rattle.term_graph.specs.Told.{Tells, past_of}
 use Rattle.term_graph.specs.Good.{IsGood, AreGood, Fits}
-use Rattle.term_graph.proofs.Forests.{leads_open, leads_root}
+use Rattle.term_graph.proofs.Forests.{leads_open, leads_root, root_of_root}
 use Rattle.term_graph.proofs.Joining.{uses-joined, uses-others}
 use Rattle.term_graph.proofs.Marking.{map-set_kept}
+use Rattle.term_graph.proofs.Measuring.{measured_joined}
 use Rattle.term_graph.proofs.Reading.{each-same, each-at}
 use Rattle.term_graph.proofs.Restoring.{kept-back}
 use Rattle.term_graph.proofs.Trailing.{AreGood-now, AreGood-pushed, history-pushed}
@@ -37,7 +40,7 @@ module _ (f : Fields) (g : IsGood f) (v to w : ℕ) (l : v < length f.slots) (m 
   hw = get_or (heads_of f.slots) w 0
 
   abbrev now : Fields
-  now = record { slots = rebound v (Variable to) f.slots; terms = f.terms; cells = f.cells; next = exchanged hw hv f.next; entries = f'.entries; lowered = f'.lowered }
+  now = record { slots = rebound v (Variable to) f.slots; classes = merged v w f.classes; terms = f.terms; cells = f.cells; next = exchanged hw hv f.next; entries = f'.entries; lowered = f'.lowered }
 
   b-is : length b ≡ length f.slots
   b-is = length-map f.slots (λ s. s.binding)
@@ -69,6 +72,14 @@ module _ (f : Fields) (g : IsGood f) (v to w : ℕ) (l : v < length f.slots) (m 
   hwl : hw < length f.next
   hwl = (g.ringed.head w wb).0
 
+  classes-back : set (merged v w f.classes) w (class_at f.classes w) ≡ f.classes
+  unfolding merged
+  classes-back = set-set f.classes w (together (class_at f.classes v) (class_at f.classes w)) (class_at f.classes w) ∙ set-get_or f.classes w (alone 0)
+
+  w_in : w < length (merged v w f.classes)
+  unfolding merged
+  w_in = rw (length-set, g.measured.count) wb
+
   undone-joined : undone (Joined (joining v w f)) f' ≡ f
   undone-joined =
       let a : slot_at now.slots v ≡ bound_to (Variable to) (slot_at f.slots v) = get_or-set_same f.slots v (bound_to (Variable to) (slot_at f.slots v)) (free 0) l in
@@ -76,10 +87,10 @@ module _ (f : Fields) (g : IsGood f) (v to w : ℕ) (l : v < length f.slots) (m 
       let e : exchanged hw hv (exchanged hw hv f.next) ≡ f.next = exchanged-twice hw hv f.next hwl hvl in
       let back : put_back (length f.entries) (length f.lowered) f'.entries f'.lowered ≡ f.entries = kept-back f.entries f'.entries f.lowered f'.lowered h.kept in
       let first : take (length f.lowered) f'.lowered ≡ f.lowered = h.kept.first (length f.lowered) (omega arith) ∙ take_all (length f.lowered) f.lowered (omega arith) in
-      ap (undone (Joined (joining v w f))) h.same ∙ rw (a, k, e, back, first) refl
+      ap (undone (Joined (joining v w f))) h.same ∙ rw (a, k, classes-back, e, back, first) refl
 
   fits-joined : Fits (Joined (joining v w f)) f'
-  fits-joined = subst (Fits (Joined (joining v w f))) (sym h.same) (rw length-set l, rw length-exchanged hwl, rw length-exchanged hvl, h.kept.count)
+  fits-joined = subst (Fits (Joined (joining v w f))) (sym h.same) (rw length-set l, w_in, rw length-exchanged hwl, rw length-exchanged hvl, h.kept.count)
 
   bound-now : (u s : ℕ) → binding_of (set b v (Variable to)) u ≡ Term s → s < length f.terms
   bound-now u s e = elim (cases_eq u v) [
@@ -90,6 +101,7 @@ module _ (f : Fields) (g : IsGood f) (v to w : ℕ) (l : v < length f.slots) (m 
   good-joined : IsGood now
   good-joined = record {
     ringed = rw (b-now, heads-now) (ringed_joined b heads (owners_of f.cells) f.next g.ringed v to w vb tb wb o wo apart x);
+    measured = rw (b-now, heads-now) (measured_joined b heads (owners_of f.cells) f.next g.ringed f.classes g.measured v to w vb tb wb o wo apart x);
     mentioned = rw heads-now g.mentioned;
     shared = rw b-now h.shared;
     bound = rw b-now bound-now;
@@ -132,9 +144,29 @@ module _ (f : Fields) (g : IsGood f) (v to w : ℕ) (l : v < length f.slots) (m 
       let u : uses_seen now.slots now.cells now.next ≡ joined_uses v (root b to) (seen f) = uses-now ∙ ap (λ z. joined_uses v z (seen f)) r in
       cc
 
+  -- the least variable that is kept of a root
+  least_at : (r : ℕ) → r < length b → target_of b r ≡ None → IsLeast (seen f) r (class_at f.classes r).least
+  least_at r rl ro =
+      let e = root_of_root b r ro in
+      record { same = g.measured.same r rl ro ∙ sym e; least = λ u i. g.measured.least r u rl ro (i ∙ e) }
+
+  tells-joined : Tells (past_of (Joined (joining v w f))) (seen f) (seen f')
+  tells-joined = record {
+    to = to;
+    within = vb;
+    to_within = tb;
+    top = o;
+    leads = leads_root b x;
+    apart = apart;
+    was = sym (get_or-map (λ s. s.binding) f.slots v (free 0) Free l);
+    least = least_at v vb o;
+    root_least = least_at w wb wo;
+    is = ap seen h.same ∙ seen-joined;
+  }
+
   module _ (cs ds : List Change) (p : ds ≡ cs ++ Joined (joining v w f) ∷ []) where
     pub joined-good : AreGood (reverse cs) f → AreGood (reverse ds) f'
-    joined-good a = AreGood-pushed cs ds (Joined (joining v w f)) f f' p undone-joined (subst IsGood (sym h.same) good-joined) fits-joined a
+    joined-good a = AreGood-pushed cs ds (Joined (joining v w f)) f f' p undone-joined (subst IsGood (sym h.same) good-joined) fits-joined tells-joined a
 
     pub joined-is : history (reverse ds) f' ≡ grown (BoundAt v) (with_binding v (Variable to) (seen f)) (history (reverse cs) f)
     joined-is =

@@ -1,5 +1,5 @@
 -- Keys: when two are equal, and what is looked up.
-use Rattle.std.proofs.Common.{ℕ, ◌≡◌, Bool, true, false, cond, List, [], ◌∷◌, ◌++◌, refl, ap, ◌∙◌, subst, inl, inr, ◌⊎◌, Some, None}
+use Rattle.std.proofs.Common.{ℕ, zero, suc, ◌≡◌, ◌<◌, arith, length, take, get_or, Bool, true, false, cond, List, [], ◌∷◌, ◌++◌, refl, ap, ◌∙◌, subst, inl, inr, ◌⊎◌, Some, None}
 use Rattle.std.specs.Prelude.{◌&&◌, nat_eq}
 use Rattle.std.specs.List.{AllByRecursion}
 use Rattle.std.specs.Cmp.Lexicographic.{pointwise, bytes_decides}
@@ -85,6 +85,16 @@ all_pushed P (y ∷ ys) x h p = (h.0, all_pushed P ys x h.1 p)
 pub all_each : {X : Type 0} (P Q : X → Type 0) → ((x : X) → P x → Q x) → (xs : List X) → AllByRecursion P xs → AllByRecursion Q xs
 all_each P Q f [] h = tt
 all_each P Q f (x ∷ xs) h = (f x h.0, all_each P Q f xs h.1)
+
+pub all_take : {X : Type 0} (P : X → Type 0) (n : ℕ) (xs : List X) → AllByRecursion P xs → AllByRecursion P (take n xs)
+all_take P zero xs h = tt
+all_take P (suc n) [] h = tt
+all_take P (suc n) (x ∷ xs) h = (h.0, all_take P n xs h.1)
+
+pub all_at : (P : ℕ → Type 0) (i : ℕ) (xs : List ℕ) → i < length xs → AllByRecursion P xs → P (get_or xs i 0)
+all_at P i [] l h = absurd (omega arith)
+all_at P zero (x ∷ xs) l h = h.0
+all_at P (suc i) (x ∷ xs) l h = all_at P i xs (omega arith) h.1
 
 -- `==` of keys
 equal_parts : (s t : Sign) (a b : Key)

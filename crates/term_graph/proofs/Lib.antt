@@ -1,4 +1,5 @@
 pub mod Adding
+pub mod Counting
 pub mod Forests
 pub mod Forming
 pub mod Growing
@@ -9,6 +10,7 @@ pub mod Keying
 pub mod Lowest
 pub mod Making
 pub mod Marking
+pub mod Measuring
 pub mod Mentioning
 pub mod Moving
 pub mod Noting
@@ -23,3 +25,5 @@ pub mod Terming
 pub mod Trailing
 pub mod Using
 pub mod Walking
+pub mod Weighing
+pub mod Yielding

@@ -1,5 +1,5 @@
 -- A term more: taken back, good still, and what is seen.
-use Rattle.std.proofs.Common.{ℕ, ◌≡◌, ◌<◌, ◌≤◌, ◌+◌, ◌-◌, true, false, List, [], ◌∷◌, ◌++◌, length, map, get_or, refl, sym, ap, ◌∙◌, subst, inl, inr, Some, None, arith, append_assoc, length-append}
+use Rattle.std.proofs.Common.{ℕ, ◌≡◌, ◌<◌, ◌≤◌, ◌+◌, ◌-◌, ◌^◌, true, false, List, [], ◌∷◌, ◌++◌, length, map, get_or, refl, sym, ap, ◌∙◌, subst, inl, inr, Some, None, arith, append_assoc, length-append}
 use Rattle.std.specs.Prelude.{Option, nat_eq, reverse, Result, Ok, Err, IfOk, OnOk, OnErr, All}
 use Rattle.std.specs.List.{AllByRecursion}
 use Rattle.std.specs.Map.{lookup}
@@ -7,27 +7,33 @@ use Rattle.std.proofs.lemmas.Bool.{cases_eq, eq-eqb, ne_eqb}
 use Rattle.std.proofs.lemmas.List.{get_or_default, length_push, length-map, map-append, get_or_push, get_or_append_left, append-nil}
 use Rattle.std.proofs.lemmas.List.Elements.{recursion_from_All}
 use Rattle.lists.specs.declared.NoMemory.{NoMemory}
-use Rattle.index_lists.specs.Rings.{with_cell}
+use Rattle.index_lists.specs.Rings.{with_cell, IsInside}
 use Rattle.index_lists.proofs.Rounds.{length-with_cell}
 use Rattle.tree_model.specs.declared.tree.Symbol.{Symbol}
 use Rattle.term_graph.specs.declared.bound.Bound.{Bound}
 use Rattle.term_graph.specs.declared.term.Term.{Term as Made}
+use Rattle.term_graph.specs.declared.class.Class.{Class}
+use Rattle.term_graph.specs.declared.parts.Slot.{Slot}
 use Rattle.term_graph.specs.declared.parts.Mention.{Mention}
 use Rattle.term_graph.specs.declared.key.Key.{Key}
 use Rattle.term_graph.specs.declared.change.Change.{Change}
 use Rattle.term_graph.specs.declared.change.Change.TheVariants.{Interned}
 use Rattle.term_graph.specs.Contents.{History, grown, with_term, root, target_of, term_at, no_term, each, once_for, IsForest, IsLeader, IsInterned}
 use Rattle.term_graph.specs.Contents.Step.{Interns}
+use Rattle.term_graph.specs.Classes.{class_at, weighed}
 use Rattle.term_graph.specs.Keys.{sign_of, is_key_of, shared_at}
-use Rattle.term_graph.specs.Fields.{Fields, made, mentions, mention_next, last_count, heads_of, owners_of, mentions_of, bindings_of, uses_in, uses_seen, seen, undone, history}
+use Rattle.term_graph.specs.Fields.{Fields, made, mentions, mention_next, last_args, last_count, heads_of, owners_of, mentions_of, bindings_of, uses_in, uses_seen, seen, undone, history}
+use Rattle.term_graph.specs.Told.{HasTermMore}
 use Rattle.term_graph.specs.Good.{AreRinged, AreRoots, IsGood, AreGood, Fits, IsInternedIn}
 use Rattle.term_graph.proofs.Adding.{undone-pushed}
 use Rattle.term_graph.proofs.Forests.{root-within, leads_to_root}
 use Rattle.term_graph.proofs.Interning.{AreIn, cut_back, cells_back, ringed_mentions, owners-mentions, mentioned_made, shared_made, length-mentions, next_good, uses_with, uses_beside}
-use Rattle.term_graph.proofs.Keying.{all_each}
+use Rattle.term_graph.proofs.Keying.{all_each, all_at}
+use Rattle.term_graph.proofs.Measuring.{measured_mentions, room_for_mentions}
 use Rattle.term_graph.proofs.Reading.{each-same, each-at}
 use Rattle.term_graph.proofs.Ringing.{ringed_mention}
 use Rattle.term_graph.proofs.Trailing.{AreGood-now, AreGood-pushed, history-pushed}
+use Rattle.term_graph.proofs.Weighing.{lightened-weighed, length-weighed}
 
 -- the uses with the mentions of the term
 once_more : (r t : ℕ) (ks xs : List ℕ) → once_for r t ks ++ (t ∷ xs) ≡ t ∷ (once_for r t ks ++ xs)
@@ -63,6 +69,17 @@ pub roots_are : (b : List Bound) → IsForest b → (xs : List ℕ) → AllByRec
 roots_are b f [] h = tt
 roots_are b f (x ∷ xs) h = ((root-within b f (leads_to_root b f x) h.0, f.ends x), roots_are b f xs h.1)
 
+-- the classes of the arguments have room for the mentions, since there is room for the cells
+pub room_made : (slots : List Slot) (classes : List Class) (terms terms' : List Made) (term made : Made) (number : ℕ) (next next' : List ℕ) (n : ℕ) → IsInside next
+    → AreIn (length slots) (heads_of slots) (length next) term.args → AllByRecursion (λ a. (a < length classes) × ((class_at classes a).weight ≤ length next)) term.args
+    → next' ≡ mention_next (heads_of slots) term.args next → terms' ≡ terms ++ term ∷ [] → number ≡ length terms → made ≡ get_or terms' number made → n ≡ length next' → n < 2 ^ 64
+    → AllByRecursion (λ r. (r < length classes) × ((class_at classes r).weight + length made.args < 2 ^ 64)) made.args
+room_made slots classes terms terms' term made number next next' n inside h k e t ne me ce l =
+    let q : made ≡ term = me ∙ ap (λ z. get_or z number made) t ∙ get_or_push terms term made number (sym ne) in
+    let m : length next' ≡ length next + length term.args = ap length e ∙ (next_good (length slots) (heads_of slots) term.args next inside h).1 in
+    rw q (all_each (λ a. (a < length classes) × ((class_at classes a).weight ≤ length next)) (λ r. (r < length classes) × ((class_at classes r).weight + length term.args < 2 ^ 64))
+    (λ a p. (p.0, (let w = p.1 in omega arith))) term.args k)
+
 module _ (f : Fields) (g : IsGood f) where
   abbrev b : List Bound
   b = bindings_of f.slots
@@ -82,6 +99,9 @@ module _ (f : Fields) (g : IsGood f) where
   pub roots_in : (keys : List ℕ) → AreRoots b keys → AreIn (length f.slots) heads (length f.next) keys
   roots_in keys roots = all_each (λ x. (x < length b) × (target_of b x ≡ None)) (λ x. (x < length f.slots) × (get_or heads x 0 < length f.next)) (λ x p. (rw (← b-is) p.0, (g.ringed.head x p.0).0)) keys roots
 
+  pub room_in : (keys : List ℕ) → AreRoots b keys → AllByRecursion (λ a. (a < length f.classes) × ((class_at f.classes a).weight ≤ length f.next)) keys
+  room_in keys roots = room_for_mentions b heads owners f.next g.ringed f.classes g.measured keys roots
+
   heads_in : (v : ℕ) → v < length heads → get_or heads v 0 < length ms
   heads_in v l = (let k = (g.ringed.head v (rw g.ringed.variables at l)).0 in let e = g.mentioned.cells in let c = g.ringed.cells in omega arith)
 
@@ -99,10 +119,16 @@ module _ (f : Fields) (g : IsGood f) where
     mentions-made : mentions_of now.cells ≡ ms ++ mentions_of (mentions (length f.terms) 0 keys)
     mentions-made = map-append (λ c. c.mention) f.cells (mentions (length f.terms) 0 keys)
 
-    count-made : last_count now.terms ≡ length keys
-    count-made =
+    args-made : last_args now.terms ≡ keys
+    args-made =
         let n : length (f.terms ++ term ∷ []) - 1 ≡ length f.terms = omega (arith, length_push f.terms term) in
-        ap (λ z. length (term_at (f.terms ++ term ∷ []) z).args) n ∙ ap (λ z. length z.args) (get_or_push f.terms term no_term (length f.terms) refl)
+        ap (λ z. (term_at (f.terms ++ term ∷ []) z).args) n ∙ ap (λ z. z.args) (get_or_push f.terms term no_term (length f.terms) refl)
+
+    count-made : last_count now.terms ≡ length keys
+    count-made = ap length args-made
+
+    keys_in : AllByRecursion (λ r. r < length f.classes) keys
+    keys_in = all_each (λ x. (x < length b) × (target_of b x ≡ None)) (λ r. r < length f.classes) (λ x p. rw g.measured.count p.0) keys roots
 
     pub undone-made : undone Interned now ≡ f
     undone-made =
@@ -110,7 +136,8 @@ module _ (f : Fields) (g : IsGood f) where
         let e = undone-pushed f.entries (key, length f.terms) in
         let c = cells_back f.cells (length f.terms) 0 (length keys) keys refl in
         let n = cut_back (length f.slots) heads keys f.next g.ringed.inside (roots_in keys roots) in
-        rw (count-made, t, e, c, n) refl
+        let k = lightened-weighed keys f.classes keys_in in
+        rw (args-made, t, e, c, n, k) refl
 
     few-made : length keys ≤ 8 → (t : ℕ) → t < length (f.terms ++ term ∷ []) → length (term_at (f.terms ++ term ∷ []) t).args ≤ 8
     few-made n t l = elim (cases_eq t (length f.terms)) [
@@ -121,6 +148,7 @@ module _ (f : Fields) (g : IsGood f) where
     pub good-made : length keys ≤ 8 → IsGood now
     good-made n = record {
       ringed = rw owners-made (ringed_mentions b heads keys owners f.next g.ringed roots);
+      measured = measured_mentions b heads keys owners f.next f.classes g.ringed g.measured roots;
       mentioned = rw (owners-made, mentions-made) (mentioned_made heads owners f.terms ms g.mentioned heads_in term);
       shared = shared_made b f.terms f.entries g.shared symbol keys roots key ks ka absent;
       bound = λ v t e. (let l = g.bound v t e in omega (arith, length_push f.terms term));
@@ -147,7 +175,16 @@ module _ (f : Fields) (g : IsGood f) where
     fits-made =
         let n = (next_good (length f.slots) heads keys f.next g.ringed.inside (roots_in keys roots)).1 in
         let c = count-made in
-        (omega (arith, length_push f.terms term), omega (arith, length_push f.entries (key, length f.terms)), omega (arith, length-append f.cells (mentions (length f.terms) 0 keys), length-mentions (length f.terms) 0 keys), omega arith)
+        (omega (arith, length_push f.terms term), omega (arith, length_push f.entries (key, length f.terms)), omega (arith, length-append f.cells (mentions (length f.terms) 0 keys), length-mentions (length f.terms) 0 keys), omega arith, rw args-made (all_each (λ r. r < length f.classes) (λ r. r < length (weighed keys f.classes)) (λ x l. rw (length-weighed keys f.classes) l) keys keys_in))
+
+    pub tells-made : HasTermMore (seen f) (seen now)
+    tells-made = record {
+      symbol = symbol;
+      keys = keys;
+      roots = λ i l. all_at (λ x. (x < length b) × (target_of b x ≡ None)) i keys l roots;
+      new = subst (IsLeader b f.terms symbol keys) absent (g.shared.leaders symbol keys roots);
+      is = seen-made;
+    }
 
 -- the call
 module _ (cs ds : List Change) (f f' : Fields) (symbol : Symbol) (keys : List ℕ) (t : ℕ) where
@@ -156,7 +193,7 @@ module _ (cs ds : List Change) (f f' : Fields) (symbol : Symbol) (keys : List �
   interned-good r n (inr s) h =
       let g = AreGood-now (reverse cs) f h in
       let k = s.2.0 in
-      rw s.2.3 (AreGood-pushed cs ds Interned f (made (record { symbol = symbol; args = keys }) k f) s.3 (undone-made f g symbol keys r k s.2.1 s.2.2 s.0) (good-made f g symbol keys r k s.2.1 s.2.2 s.0 n) (fits-made f g symbol keys r k s.2.1 s.2.2 s.0) h)
+      rw s.2.3 (AreGood-pushed cs ds Interned f (made (record { symbol = symbol; args = keys }) k f) s.3 (undone-made f g symbol keys r k s.2.1 s.2.2 s.0) (good-made f g symbol keys r k s.2.1 s.2.2 s.0 n) (fits-made f g symbol keys r k s.2.1 s.2.2 s.0) (tells-made f g symbol keys r k s.2.1 s.2.2 s.0) h)
 
   pub interned-is : (before : History) → AreRoots (bindings_of f.slots) keys → AreGood (reverse cs) f → history (reverse cs) f ≡ before
       → IsInternedIn f f' cs ds symbol keys t → IsInterned before (history (reverse ds) f') symbol keys t

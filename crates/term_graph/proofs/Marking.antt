@@ -1,10 +1,11 @@
 -- A mark more, and slots with the same bindings and cells.
 use Rattle.std.proofs.Common.{◌≡◌, ℕ, ◌<◌, List, [], ◌∷◌, ◌++◌, false, length, set, get_or, refl, sym, ◌∙◌, ap, map, length-set, get_or-set_same}
 use Rattle.std.specs.Prelude.{reverse, Result, Ok, Err, OnOk, OnErr}
-use Rattle.std.proofs.lemmas.List.{set-set, set-get_or, map-set, get_or-map}
+use Rattle.std.proofs.lemmas.List.{set-set, set-get_or, map-set, get_or-map, length-map}
 use Rattle.term_graph.specs.Contents.{History, grown, with_mark, marked}
 use Rattle.term_graph.specs.Contents.Step.{MarkedAt}
 use Rattle.term_graph.specs.Fields.{Fields, free, slot_at, with_slots, with_finite, without_finite, seen, undone, history, bindings_of, heads_of, uses_seen}
+use Rattle.term_graph.specs.Told.{IsNewlyMarked}
 use Rattle.term_graph.specs.Good.{IsGood, AreGood}
 use Rattle.term_graph.specs.declared.change.Change.{Change}
 use Rattle.term_graph.specs.declared.change.Change.TheVariants.{Marked}
@@ -20,6 +21,7 @@ map-set_kept f xs i d y l k =
 pub good_as : (f : Fields) (slots : List Slot) → bindings_of slots ≡ bindings_of f.slots → heads_of slots ≡ heads_of f.slots → IsGood f → IsGood (with_slots slots f)
 good_as f slots b h g = record {
   ringed = rw (b, h) g.ringed;
+  measured = rw (b, h) g.measured;
   mentioned = rw h g.mentioned;
   shared = rw b g.shared;
   bound = rw b g.bound;
@@ -55,11 +57,14 @@ module _ (f : Fields) (v : ℕ) (l : v < length f.slots) (e : (slot_at f.slots v
       let u = uses_as f.slots now f.cells f.next (length-set f.slots v (with_finite (slot_at f.slots v))) bindings-marked heads-marked in
       cc
 
+  tells-marked : IsNewlyMarked v (seen f) (seen (with_slots now f))
+  tells-marked = record { within = rw length-map l; bare = get_or-map (λ s. s.finite) f.slots v (free 0) false l ∙ e; is = seen-marked }
+
   module _ (cs ds : List Change) (f' : Fields) (p : ds ≡ cs ++ Marked v ∷ []) (q : f' ≡ with_slots now f) where
     pub marked-good : AreGood (reverse cs) f → AreGood (reverse ds) f'
     marked-good h =
         let g = AreGood-now (reverse cs) f h in
-        rw q (AreGood-pushed cs ds (Marked v) f (with_slots now f) p undone-marked (good_as f now bindings-marked heads-marked g) (rw length-set l) h)
+        rw q (AreGood-pushed cs ds (Marked v) f (with_slots now f) p undone-marked (good_as f now bindings-marked heads-marked g) (rw length-set l) tells-marked h)
 
     pub marked-is : history (reverse ds) f' ≡ marked v (history (reverse cs) f)
     marked-is =

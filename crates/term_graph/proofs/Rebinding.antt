@@ -29,5 +29,5 @@ pub entries_back : (es fs gs : List (Key × ℕ)) (xs ys : List Lowered) (n k : 
 entries_back es fs gs xs ys n k e d h f = f ∙ ap (λ z. restored (drop z ys) (take k fs)) e ∙ ap (λ z. restored (drop (length xs) ys) (take z fs)) d ∙ kept-back es fs xs ys h
 
 pub fields_back : (f : Fields) (slots : List Slot) (entries : List (Key × ℕ)) (lowered : List Lowered) → slots ≡ f.slots → entries ≡ f.entries → lowered ≡ f.lowered
-    → record { slots = slots; terms = f.terms; cells = f.cells; next = f.next; entries = entries; lowered = lowered } ≡ f
+    → record { slots = slots; classes = f.classes; terms = f.terms; cells = f.cells; next = f.next; entries = entries; lowered = lowered } ≡ f
 fields_back f slots entries lowered p q r = rw (p, q, r) refl

@@ -11,8 +11,10 @@ use Rattle.term_graph.specs.declared.change.Change.TheVariants.{Termed}
 use Rattle.term_graph.specs.Contents.{History, grown, each, target, target_of, binding_of, with_binding}
 use Rattle.term_graph.specs.Contents.Step.{BoundAt}
 use Rattle.term_graph.specs.Fields.{Fields, free, slot_at, with_slots, bound_to, rebound, seen, undone, history, bindings_of, heads_of, mentions_of, uses_seen, uses_in, used, round_of}
+use Rattle.term_graph.specs.Told.{IsBoundToTerm}
 use Rattle.term_graph.specs.Good.{IsGood, AreGood}
 use Rattle.term_graph.proofs.Marking.{map-set_kept}
+use Rattle.term_graph.proofs.Measuring.{same-measured}
 use Rattle.term_graph.proofs.Reading.{each-same}
 use Rattle.term_graph.proofs.Ringing.{same-ringed, same-root}
 use Rattle.term_graph.proofs.Sharing.{same-shared}
@@ -61,6 +63,7 @@ module _ (f : Fields) (v t : ℕ) (l : v < length f.slots) (o : binding_of (bind
   good-termed : IsGood f → IsGood (with_slots now_slots f)
   good-termed g = record {
     ringed = rw (b-now, heads-now) (same-ringed b (set b v (Term t)) (heads_of f.slots) _ f.next same-length same-target g.ringed);
+    measured = rw (b-now, heads-now) (same-measured b (set b v (Term t)) (heads_of f.slots) f.next f.classes same-length same-target (same-root b (set b v (Term t)) (heads_of f.slots) [] f.next same-length same-target) g.measured);
     mentioned = rw heads-now g.mentioned;
     shared = rw b-now (same-shared b (set b v (Term t)) f.terms f.entries same-length same-target (same-root b (set b v (Term t)) (heads_of f.slots) [] f.next same-length same-target) g.shared);
     bound = rw b-now (bound-now g);
@@ -90,11 +93,14 @@ module _ (f : Fields) (v t : ℕ) (l : v < length f.slots) (o : binding_of (bind
       let u = uses-termed in
       cc
 
+  tells-termed : IsBoundToTerm v (seen f) (seen (with_slots now_slots f))
+  tells-termed = record { term = t; within = vb; term_within = tl; free = o; is = seen-termed }
+
   module _ (cs ds : List Change) (f' : Fields) (p : ds ≡ cs ++ Termed v ∷ []) (q : f' ≡ with_slots now_slots f) where
     termed-good : AreGood (reverse cs) f → AreGood (reverse ds) f'
     termed-good h =
         let g = AreGood-now (reverse cs) f h in
-        rw q (AreGood-pushed cs ds (Termed v) f (with_slots now_slots f) p undone-termed (good-termed g) (rw length-set l) h)
+        rw q (AreGood-pushed cs ds (Termed v) f (with_slots now_slots f) p undone-termed (good-termed g) (rw length-set l) tells-termed h)
 
     termed-is : history (reverse ds) f' ≡ grown (BoundAt v) (with_binding v (Term t) (seen f)) (history (reverse cs) f)
     termed-is = rw q (history-pushed cs ds (Termed v) f (with_slots now_slots f) p undone-termed ∙ ap (λ c. grown (BoundAt v) c (history (reverse cs) f)) seen-termed)

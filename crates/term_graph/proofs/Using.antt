@@ -22,7 +22,7 @@ pub way_cells : (next : List ℕ) (stop : ℕ) {c : ℕ} {xs : List ℕ} → Way
 way_cells next stop there = tt
 way_cells next stop (on {c = c} {cells = xs} k p) = (absent_from c xs (way_leaves next stop (on k p)), way_cells next stop p)
 
-all_at : (P : ℕ → Type 0) (xs : List ℕ) (x : ℕ) → AllByRecursion P xs → Contains xs x → P x
+pub all_at : (P : ℕ → Type 0) (xs : List ℕ) (x : ℕ) → AllByRecursion P xs → Contains xs x → P x
 all_at P [] x h c = absurd (let l = c.1 in omega arith)
 all_at P (y ∷ ys) x h (zero, l, e) = subst P e h.0
 all_at P (y ∷ ys) x h (suc k, l, e) = all_at P ys x h.1 (k, (omega arith), e)

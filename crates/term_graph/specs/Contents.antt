@@ -1,5 +1,5 @@
 -- What a graph holds now, and what it held at each earlier length of its trail.
-use Rattle.std.specs.Prelude.{◌≡◌, ◌≢◌, ℕ, zero, suc, ◌<◌, ◌≤◌, Bool, true, false, List, [], ◌∷◌, ◌++◌, length, map, take, slice_index_or, slice_set, Option, Some, None, All, Contains, ◌↔◌, if◌then◌else◌, cond, nat_eq, ◌||◌, ◌⊎◌}
+use Rattle.std.specs.Prelude.{◌≡◌, ◌≢◌, ℕ, zero, suc, ◌+◌, ◌<◌, ◌≤◌, Bool, true, false, List, [], ◌∷◌, ◌++◌, length, map, take, slice_index_or, slice_set, Option, Some, None, All, Contains, ◌↔◌, if◌then◌else◌, cond, nat_eq, ◌||◌, ◌⊎◌}
 use Rattle.lists.specs.Distinct.{IsDistinct}
 use Rattle.tree_model.specs.declared.tree.Symbol.{Symbol}
 use Rattle.tree_model.specs.declared.tree.Symbol.TheVariants as symbols
@@ -125,6 +125,22 @@ IsLeader bindings terms symbol keys (Some m) = HasKey bindings terms symbol keys
 pub record AreUsers (bindings : List Bound) (terms : List Made) (r : ℕ) (list : List ℕ) : Type 0 where
   pub distinct : IsDistinct list
   pub each : (t : ℕ) → Contains list t ↔ ((t < length terms) × Contains (map (root bindings) (term_at terms t).args) r)
+
+-- l is the least variable with the root of v
+pub record IsLeast (c : Contents) (v l : ℕ) : Type 0 where
+  pub same : root c.bindings l ≡ root c.bindings v
+  pub least : (u : ℕ) → root c.bindings u ≡ root c.bindings v → l ≤ u
+
+-- the variables with this root, each once
+pub record AreMembers (bindings : List Bound) (r : ℕ) (list : List ℕ) : Type 0 where
+  pub distinct : IsDistinct list
+  pub each : (u : ℕ) → Contains list u ↔ ((u < length bindings) × (root bindings u ≡ r))
+
+-- n is the number of the variables with the root of v and of the mentions of these
+pub record IsWeight (c : Contents) (v n : ℕ) : Type 0 where
+  pub members : List ℕ
+  pub are : AreMembers c.bindings (root c.bindings v) members
+  pub counted : n ≡ length members + length (uses_at c v)
 
 abbrev pub with_variable : Contents → Contents
 with_variable c = record { bindings = c.bindings ++ Free ∷ []; marks = c.marks ++ false ∷ []; terms = c.terms; uses = c.uses ++ [] ∷ [] }

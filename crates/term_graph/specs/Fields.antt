@@ -12,6 +12,8 @@ use Rattle.term_graph.specs.declared.change.Change.{Change}
 use Rattle.term_graph.specs.declared.change.Change.TheVariants.{Added, Interned, Termed, Joined, Marked}
 use Rattle.term_graph.specs.declared.key.Key.{Key}
 use Rattle.term_graph.specs.declared.key.Lowered.{Lowered}
+use Rattle.term_graph.specs.declared.class.Class.{Class}
+use Rattle.term_graph.specs.Classes.{alone, weighed, lightened}
 use Rattle.term_graph.specs.Contents.{Contents, Step, Moment, History, root, each, term_at}
 use Rattle.term_graph.specs.Contents.Step.{Grew, Interns, MarkedAt, BoundAt}
 use Rattle.term_graph.specs.Lowering.{restored}
@@ -19,6 +21,7 @@ use Rattle.index_lists.specs.Rings.{exchanged, without_last, with_cell}
 
 pub record Fields : Type 0 where
   pub slots : List Slot
+  pub classes : List Class
   pub terms : List Made
   pub cells : List Cell
   pub next : List ℕ
@@ -26,7 +29,7 @@ pub record Fields : Type 0 where
   pub lowered : List Lowered
 
 abbrev pub fields : Parts → Fields
-fields p = record { slots = p.slots.items; terms = p.terms.items; cells = p.cells.items; next = p.rings; entries = p.table.entries; lowered = p.lowered.items }
+fields p = record { slots = p.slots.items; classes = p.classes.items; terms = p.terms.items; cells = p.cells.items; next = p.rings; entries = p.table.entries; lowered = p.lowered.items }
 
 abbrev pub free : ℕ → Slot
 free cell = record { binding = Free; finite = false; cell = cell }
@@ -109,31 +112,36 @@ cut_off (suc n) next = cut_off n (without_last next)
 abbrev pub put_back : ℕ → ℕ → List (Key × ℕ) → List Lowered → List (Key × ℕ)
 put_back keys count entries lowered = restored (drop count lowered) (take keys entries)
 
--- how many arguments the last term has
+-- the arguments of the last term, and how many it has
+abbrev pub last_args : List Made → List ℕ
+last_args terms = (term_at terms (length terms - 1)).args
+
 abbrev pub last_count : List Made → ℕ
-last_count terms = length (term_at terms (length terms - 1)).args
+last_count terms = length (last_args terms)
 
 -- a change taken back
 abbrev pub undone : Change → Fields → Fields
-undone Added f = record { slots = take (length f.slots - 1) f.slots; terms = f.terms; cells = take (length f.cells - 1) f.cells; next = without_last f.next; entries = f.entries; lowered = f.lowered }
+undone Added f = record { slots = take (length f.slots - 1) f.slots; classes = take (length f.classes - 1) f.classes; terms = f.terms; cells = take (length f.cells - 1) f.cells; next = without_last f.next; entries = f.entries; lowered = f.lowered }
 undone Interned f = record {
   slots = f.slots;
+  classes = lightened (last_args f.terms) f.classes;
   terms = take (length f.terms - 1) f.terms;
   cells = take (length f.cells - last_count f.terms) f.cells;
   next = cut_off (last_count f.terms) f.next;
   entries = take (length f.entries - 1) f.entries;
   lowered = f.lowered;
 }
-undone (Termed v) f = record { slots = rebound v Free f.slots; terms = f.terms; cells = f.cells; next = f.next; entries = f.entries; lowered = f.lowered }
+undone (Termed v) f = record { slots = rebound v Free f.slots; classes = f.classes; terms = f.terms; cells = f.cells; next = f.next; entries = f.entries; lowered = f.lowered }
 undone (Joined j) f = record {
   slots = rebound j.variable j.before f.slots;
+  classes = slice_set f.classes j.root j.root_class;
   terms = f.terms;
   cells = f.cells;
   next = exchanged j.cut.a j.cut.b f.next;
   entries = put_back j.keys j.lowered f.entries f.lowered;
   lowered = take j.lowered f.lowered;
 }
-undone (Marked v) f = record { slots = slice_set f.slots v (without_finite (slot_at f.slots v)); terms = f.terms; cells = f.cells; next = f.next; entries = f.entries; lowered = f.lowered }
+undone (Marked v) f = record { slots = slice_set f.slots v (without_finite (slot_at f.slots v)); classes = f.classes; terms = f.terms; cells = f.cells; next = f.next; entries = f.entries; lowered = f.lowered }
 
 abbrev pub step_of : Change → Step
 step_of Added = Grew
@@ -154,6 +162,7 @@ history changes f = record { contents = seen f; trail = moments changes f }
 abbrev pub added : Fields → Fields
 added f = record {
   slots = f.slots ++ free (length f.cells) ∷ [];
+  classes = f.classes ++ alone (length f.slots) ∷ [];
   terms = f.terms;
   cells = f.cells ++ own (length f.slots) ∷ [];
   next = f.next ++ length f.next ∷ [];
@@ -162,7 +171,7 @@ added f = record {
 }
 
 abbrev pub with_slots : List Slot → Fields → Fields
-with_slots slots f = record { slots = slots; terms = f.terms; cells = f.cells; next = f.next; entries = f.entries; lowered = f.lowered }
+with_slots slots f = record { slots = slots; classes = f.classes; terms = f.terms; cells = f.cells; next = f.next; entries = f.entries; lowered = f.lowered }
 
 -- the cells of the mentions of these arguments, from place i on
 abbrev pub mentions : ℕ → ℕ → List ℕ → List Cell
@@ -178,6 +187,7 @@ mention_next heads (a ∷ as') next = mention_next heads as' (with_cell (slice_i
 abbrev pub made : Made → Key → Fields → Fields
 made term key f = record {
   slots = f.slots;
+  classes = weighed term.args f.classes;
   terms = f.terms ++ term ∷ [];
   cells = f.cells ++ mentions (length f.terms) 0 term.args;
   next = mention_next (heads_of f.slots) term.args f.next;

@@ -1,6 +1,9 @@
+pub mod Classes
 pub mod Contents
 pub mod Fields
 pub mod Good
 pub mod Keys
 pub mod Lowering
 pub mod Noting
+pub mod Told
+pub mod Walks

@@ -12,6 +12,7 @@ use Rattle.term_graph.specs.Good.{AreRoots, IsShared}
 use Rattle.term_graph.specs.Lowering.{IsKept}
 use Rattle.term_graph.specs.Fields.{Fields, bindings_of, heads_of, slot_at, rebound}
 use Rattle.term_graph.specs.declared.change.Join.{Join}
+use Rattle.term_graph.specs.Classes.{class_at, merged}
 use Rattle.index_lists.specs.Rings.{exchanged}
 use Rattle.term_graph.specs.declared.bound.Bound.TheVariants.{Variable}
 
@@ -53,7 +54,7 @@ pub record AreNoted (b b' : List Bound) (terms : List Made) (entries : List (Key
 
 -- v is bound to the variable, and the moved terms are noted; all else stays
 pub record IsRebound (v to : ℕ) (moved : List ℕ) (f f' : Fields) : Type 0 where
-  pub same : f' ≡ record { slots = rebound v (Variable to) f.slots; terms = f.terms; cells = f.cells; next = f.next; entries = f'.entries; lowered = f'.lowered }
+  pub same : f' ≡ record { slots = rebound v (Variable to) f.slots; classes = f.classes; terms = f.terms; cells = f.cells; next = f.next; entries = f'.entries; lowered = f'.lowered }
   pub kept : IsKept f.entries f.lowered f'.entries f'.lowered
   pub noted : (b : List Bound) → AreNoted b (slice_set (bindings_of f.slots) v (Variable to)) f.terms f.entries [] → AreNoted b (slice_set (bindings_of f.slots) v (Variable to)) f.terms f'.entries moved
   pub keys : AreKeysBelow (length (bindings_of f.slots)) f.entries → AreKeysBelow (length (bindings_of f.slots)) f'.entries
@@ -62,7 +63,10 @@ pub record IsRebound (v to : ℕ) (moved : List ℕ) (f f' : Fields) : Type 0 wh
 abbrev pub joining : ℕ → ℕ → Fields → Join
 joining v w f = record {
   variable = v;
+  root = w;
   before = (slot_at f.slots v).binding;
+  class = class_at f.classes v;
+  root_class = class_at f.classes w;
   cut = record { a = slice_index (heads_of f.slots) w; b = slice_index (heads_of f.slots) v };
   keys = length f.entries;
   lowered = length f.lowered;
@@ -72,6 +76,7 @@ joining v w f = record {
 pub record IsJoined (v to w : ℕ) (f f' : Fields) : Type 0 where
   pub same : f' ≡ record {
     slots = rebound v (Variable to) f.slots;
+    classes = merged v w f.classes;
     terms = f.terms;
     cells = f.cells;
     next = exchanged (slice_index (heads_of f.slots) w) (slice_index (heads_of f.slots) v) f.next;

@@ -1,9 +1,11 @@
 //! The graph: its contents now, and the moments of its trail.
-ghost use Rattle.std.specs.Prelude.{All, ℕ, map, ◌≡◌, ◌≢◌, ◌<◌, ◌≤◌, None, [], ◌∷◌, ◌++◌, length, IfOk, OnOk, OnErr, slice_index_or, false};
+ghost use Rattle.std.specs.Prelude.{All, ℕ, map, ◌≡◌, ◌≢◌, ◌<◌, ◌≤◌, None, [], ◌∷◌, ◌++◌, ◌+◌, length, IfOk, OnOk, OnErr, slice_index_or, false};
 
 use crate::Bound;
 use crate::change::Change;
 use crate::parts::{self, Parts, binding_at, root_of};
+use crate::past::{Past, tell};
+use crate::uses::{Uses, uses_of};
 use flat_form::Args;
 use index_lists::Rings;
 use indexmap::IndexMap;
@@ -41,8 +43,10 @@ impl Model for Graph {
 }
 
 impl Graph {
-    ghost use Rattle.term_graph.specs.Contents.{empty, grown, with_variable, marked, back_to, IsGrown, root, binding_of, Leads, IsInterned, IsLeader, term_at, with_binding, root_then, MayBind, target_of, AreUsers, IsWellFormed};
+    ghost use Rattle.term_graph.specs.Contents.{empty, grown, with_variable, marked, back_to, IsGrown, root, binding_of, Leads, IsInterned, IsLeader, term_at, with_binding, root_then, MayBind, target_of, uses_at, AreUsers, IsLeast, IsWeight, IsWellFormed};
     ghost use Rattle.term_graph.specs.Contents.Step.{Grew, BoundAt};
+    ghost use Rattle.term_graph.specs.Contents.{contents_at};
+    ghost use Rattle.term_graph.specs.Told.{Tells};
 
     /// No variable and no term. It takes no memory.
     pub fn new(alloc: Global) -> Graph
@@ -52,6 +56,7 @@ impl Graph {
             alloc,
             parts: Parts {
                 slots: Vec::new(alloc),
+                classes: Vec::new(alloc),
                 terms: Vec::new(alloc),
                 cells: Vec::new(alloc),
                 rings: Rings::new(alloc),
@@ -159,6 +164,34 @@ impl Graph {
         parts::users(alloc, &self.parts, root)
     }
 
+    /// The terms that mention a variable with the root of v, once per mention. It takes no memory.
+    pub fn uses(&self, v: usize) -> Uses<'_>
+        requires { v < length self.now.contents.bindings }
+        ensures { result ≡ uses_at self.now.contents v }
+    {
+        let root = self.deref(v);
+        uses_of(&self.parts, root)
+    }
+
+    /// The least variable with the root of v. It takes no memory.
+    pub fn least(&self, v: usize) -> usize
+        requires { v < length self.now.contents.bindings }
+        ensures within { result < length self.now.contents.bindings }
+        ensures least { IsLeast self.now.contents v result }
+    {
+        let root = self.deref(v);
+        self.parts.classes[root].least
+    }
+
+    /// How many variables have the root of v, and how many mentions there are of these, together. It takes no memory.
+    pub fn weight(&self, v: usize) -> usize
+        requires { v < length self.now.contents.bindings }
+        ensures { IsWeight self.now.contents v result }
+    {
+        let root = self.deref(v);
+        self.parts.classes[root].weight
+    }
+
     /// How many variables there are. It takes no memory.
     pub fn variables(&self) -> usize
         ensures { result ≡ length self.now.contents.bindings }
@@ -210,6 +243,14 @@ impl Graph {
         ensures { result.now ≡ (term_at self.now.contents.terms t).args }
     {
         &self.parts.terms[t].args
+    }
+
+    /// What the call did that made this moment of the trail. It takes no memory.
+    pub fn step(&self, moment: usize) -> Past
+        requires { moment < length self.now.trail }
+        ensures { Tells result (contents_at self.now.trail self.now.contents moment) (contents_at self.now.trail self.now.contents (moment + 1)) }
+    {
+        tell(self.trail[moment])
     }
 
     /// The length of the trail. It takes no memory.

@@ -7,6 +7,7 @@ ghost use Rattle.term_graph.specs.Good.{Fits, IsGood, IsInternedIn};
 ghost use Rattle.term_graph.specs.Contents.{IsForest, Leads, root, IsLeader, term_at, target_of, AreUsers};
 ghost use Rattle.term_graph.specs.Noting.{AreNoted, AreKeysBelow, IsRebound, IsJoined, joining};
 ghost use Rattle.term_graph.specs.Keys.{is_key_of, sign_of};
+ghost use Rattle.term_graph.specs.Classes.{class_at};
 ghost use Rattle.std.specs.List.{AllByRecursion, position_or_len};
 ghost use Rattle.term_graph.specs.declared.parts.Mention.{Mention};
 ghost use Rattle.std.specs.Map.{lookup};
@@ -14,6 +15,7 @@ ghost use Rattle.index_lists.specs.Rings.{IsInside, with_cell};
 
 use crate::Bound;
 use crate::change::{Change, Join};
+use crate::class::{Class, lighten, merge, weigh};
 use crate::key::{Key, Lowered, add_key, find_key, note, sign_key};
 use crate::term::Term;
 use flat_form::Args;
@@ -49,6 +51,7 @@ pub struct Cell {
 #[derive(Drop)]
 pub struct Parts {
     pub slots: Vec<Slot>,
+    pub classes: Vec<Class>,
     pub terms: Vec<Term>,
     pub cells: Vec<Cell>,
     pub rings: Rings,
@@ -70,12 +73,22 @@ fn grow(parts: &mut Parts) -> Result<(), NoMemory>
         variable: parts.slots.len(),
         mention: None,
     };
+    let class = Class {
+        least: parts.slots.len(),
+        weight: 1,
+    };
     parts.slots.push(slot)?;
     if parts.cells.push(cell).is_err() {
         parts.slots.pop();
         return Err(NoMemory);
     }
+    if parts.classes.push(class).is_err() {
+        parts.cells.pop();
+        parts.slots.pop();
+        return Err(NoMemory);
+    }
     if parts.rings.new_ring().is_err() {
+        parts.classes.pop();
         parts.cells.pop();
         parts.slots.pop();
         return Err(NoMemory);
@@ -145,8 +158,8 @@ pub fn binding_at(slots: &Vec<Slot>, at: usize) -> Bound
     slots[at].binding
 }
 
-// The own cell of the variable.
-fn head_at(slots: &Vec<Slot>, at: usize) -> usize
+/// The own cell of the variable.
+pub fn head_at(slots: &Vec<Slot>, at: usize) -> usize
     requires { at < length slots.now.items }
     ensures { result ≡ slice_index (heads_of slots.now.items) at }
 {
@@ -255,6 +268,7 @@ fn make(parts: &mut Parts, term: Term, key: Key) -> Result<(), NoMemory>
     requires absent { lookup (is_key_of key.sign key.args.items) parts.old.table.entries ≡ None }
     requires inside { IsInside parts.old.rings }
     requires heads { AllByRecursion (λ a. (a < length parts.old.slots.items) × (slice_index (heads_of parts.old.slots.items) a < length parts.old.rings)) term.args }
+    requires classes { AllByRecursion (λ a. (a < length parts.old.classes.items) × ((class_at parts.old.classes.items a).weight ≤ length parts.old.rings)) term.args }
     ensures ok { OnOk result (fields parts.new ≡ made term key (fields parts.old)) }
     ensures err { OnErr result (fields parts.new ≡ fields parts.old) }
 {
@@ -283,6 +297,9 @@ fn make(parts: &mut Parts, term: Term, key: Key) -> Result<(), NoMemory>
             return Err(NoMemory);
         }
     }
+    let _cells = parts.rings.len();
+    let made = &parts.terms[number];
+    weigh(&mut parts.classes, &made.args);
     Ok(())
 }
 
@@ -297,6 +314,7 @@ pub fn intern(
     requires absent { lookup (is_key_of key.sign key.args.items) parts.old.table.entries ≡ None }
     requires inside { IsInside parts.old.rings }
     requires heads { AllByRecursion (λ a. (a < length parts.old.slots.items) × (slice_index (heads_of parts.old.slots.items) a < length parts.old.rings)) key.args.items }
+    requires classes { AllByRecursion (λ a. (a < length parts.old.classes.items) × ((class_at parts.old.classes.items a).weight ≤ length parts.old.rings)) key.args.items }
     ensures number { IfOk result (λ t. t ≡ length parts.old.terms.items) }
     ensures fields { OnOk result (fields parts.new ≡ made (record { symbol = symbol; args = key.args.items }) key (fields parts.old)) }
     ensures trail { OnOk result (trail.new.items ≡ trail.old.items ++ Change.Interned ∷ []) }
@@ -555,13 +573,18 @@ pub fn join(
     let variable_head = head_at(&parts.slots, v);
     let root_head = head_at(&parts.slots, root);
     let before = binding_at(&parts.slots, v);
+    let class = parts.classes[v];
+    let root_class = parts.classes[root];
     let keys = parts.table.len();
     let lowered = parts.lowered.len();
     let moved = users(alloc, parts, v)?;
     let cut = parts.rings.splice(root_head, variable_head);
     let join = Join {
         variable: v,
+        root,
         before,
+        class,
+        root_class,
         cut,
         keys,
         lowered,
@@ -581,6 +604,8 @@ pub fn join(
             return Err(NoMemory);
         }
     }
+    let _cells = parts.rings.len();
+    merge(&mut parts.classes, v, root);
     Ok(())
 }
 
@@ -592,11 +617,13 @@ pub fn take_back(parts: &mut Parts, change: Change)
     match change {
         Change::Added => {
             parts.slots.pop();
+            parts.classes.pop();
             parts.cells.pop();
             parts.rings.remove_last();
         }
         Change::Interned => {
             if let Some(term) = parts.terms.pop() {
+                lighten(&mut parts.classes, &term.args);
                 cut_cells(&mut parts.cells, &mut parts.rings, term.args.len());
             }
             parts.table.pop();
@@ -604,6 +631,7 @@ pub fn take_back(parts: &mut Parts, change: Change)
         Change::Termed(v) => parts.slots[v].binding = Bound::Free,
         Change::Joined(join) => {
             parts.slots[join.variable].binding = join.before;
+            parts.classes[join.root] = join.root_class;
             parts.rings.unsplice(join.cut);
             unshare(
                 &mut parts.table,

@@ -7,7 +7,7 @@ use Rattle.basic_solver.proofs.twins.twins_of.Goals as goal
 
 pub loop-i-init : goal.loop-i-init
 loop-i-init c =
-    subst (λ (z : List ℕ). IsTwinning c.args.names.now c.args.atoms.now (get is_same_key c.in-Ok.table) z 0) (sym c.new-twins.ensures.items)
+    subst (λ (z : List ℕ). IsTwinning c.args.names.now c.args.atoms.now (get is_same_key c.in-Ok.table) z 0) (sym c.in-Ok-with_capacity.ensures.items)
     (twinning_first c.args.names.now c.args.atoms.now (get is_same_key c.in-Ok.table) (λ q. ap (lookup (is_same_key q)) c.in-Ok.ensures.empty))
 
 pub loop-i-preserved : goal.loop-i-preserved

@@ -4,5 +4,5 @@ use Rattle.term_graph.proofs.graph.Graph.new.Goals as goal
 
 pub returns : goal.returns
 returns c =
-    new-is c.new-7.result.items (fields (record { slots = c.new.result; terms = c.new-2.result; cells = c.new-3.result; rings = c.new-4.result; table = c.new-5.result; lowered = c.new-6.result }))
-    c.new-7.ensures.items c.new.ensures.items c.new-2.ensures.items
+    new-is c.new-8.result.items (fields (record { slots = c.new.result; classes = c.new-2.result; terms = c.new-3.result; cells = c.new-4.result; rings = c.new-5.result; table = c.new-6.result; lowered = c.new-7.result }))
+    c.new-8.ensures.items c.new.ensures.items c.new-3.ensures.items
