@@ -1,0 +1,6 @@
+pub mod Forests
+pub mod Listing
+pub mod Readiness
+pub mod Slots
+pub mod Standing
+pub mod Turned
