@@ -1,7 +1,10 @@
 -- Which branches are ready, from a place on.
-use Rattle.std.specs.Prelude.{Bool, not, ◌&&◌, cond}
-use Rattle.std.proofs.Common.{ℕ, zero, suc, ◌≡◌, ◌+◌, ◌<◌, ◌≤◌, List, [], ◌∷◌, ◌++◌, length, true, false, refl, sym, ap, ◌∙◌, subst, arith, zero-add, add-zero, append_assoc, append-nil}
+use Rattle.std.specs.Prelude.{Bool, not, ◌&&◌, cond, slice_get, Some}
+use Rattle.std.proofs.Common.{ℕ, zero, suc, ◌≡◌, ◌+◌, ◌-◌, ◌<◌, ◌≤◌, List, [], ◌∷◌, ◌++◌, length, true, false, refl, sym, ap, ◌∙◌, subst, arith, zero-add, add-zero, append_assoc, append-nil, inl, inr}
+use Rattle.std.proofs.lemmas.Bool.{cases_lt}
 use Rattle.node_facts.specs.Branches.{Branch, Branches, branch, no_branch, one_more, size, sizes, is_waiting, none_waits, is_ready, ready_places, all_ready_places}
+use Rattle.working_rules.specs.declared.slot.Slot.{Slot}
+use Rattle.working_rules.specs.Slots.{slot_of}
 use Rattle.working_rules.specs.Forests.{joined, from_place, first_of, branch_at}
 use Rattle.working_rules.proofs.Forests.{from_more, from_one, some_left, none_left, left_low}
 
@@ -44,3 +47,184 @@ ready_none i root past = ap (λ (z : Branches). all_ready_places i z) (none_left
 
 pub ready_all : (root : Branch) → ready_from 0 root ≡ ready_places 0 root
 ready_all root = append-nil (ready_places 0 root)
+
+-- one branch, by its parts
+
+-- those of the parts of x that stand from place `at` on, up to the end of x: x is ready where none of them waits
+pub record PartsLeft (root x : Branch) (end at : ℕ) : Type 0 where
+  pub left : Branches
+  pub after : Branches
+  pub stands : from_place at (one_more root no_branch) ≡ joined left after
+  pub upto : at + sizes left ≡ end
+  pub ready : is_ready x ≡ none_waits left
+
+pub parts_begin : (root : Branch) (i end : ℕ) (x : Branch) (rest : Branches) → from_place i (one_more root no_branch) ≡ one_more x rest
+    → end ≡ i + size x → is_waiting x ≡ true → PartsLeft root x end (i + 1)
+parts_begin root i end (branch bound basic parts list) rest e same waits = record {
+  left = parts;
+  after = rest;
+  stands = from_more i 1 (one_more root no_branch) ∙ ap (λ (z : Branches). from_place 1 z) e;
+  upto = omega (arith, same);
+  ready = ap (λ (b : Bool). b && none_waits parts) waits;
+}
+
+-- the next of them
+record NextPart (root x : Branch) (end at : ℕ) : Type 0 where
+  part : Branch
+  more : Branches
+  after : Branches
+  stands : from_place at (one_more root no_branch) ≡ one_more part (joined more after)
+  upto : at + (size part + sizes more) ≡ end
+  ready : is_ready x ≡ (not (is_waiting part) && none_waits more)
+
+next_of : (root x : Branch) (end at : ℕ) (left after : Branches) → from_place at (one_more root no_branch) ≡ joined left after → at + sizes left ≡ end
+    → is_ready x ≡ none_waits left → at < end → NextPart root x end at
+next_of root x end at no_branch after stands upto ready low = absurd (omega (arith, upto, low))
+next_of root x end at (one_more part more) after stands upto ready low =
+    record { part = part; more = more; after = after; stands = stands; upto = upto; ready = ready }
+
+next_part : (root x : Branch) (end at : ℕ) → PartsLeft root x end at → at < end → NextPart root x end at
+next_part root x end at p low = next_of root x end at p.left p.after p.stands p.upto p.ready low
+
+here_at : (root : Branch) (at : ℕ) (part : Branch) (rest : Branches) → from_place at (one_more root no_branch) ≡ one_more part rest → branch_at at root ≡ part
+here_at root at part rest e = ap (λ (z : Branches). first_of z) e
+
+pub part_low : (root x : Branch) (end at : ℕ) → PartsLeft root x end at → at < end → at < size root
+part_low root x end at p low =
+    let next = next_part root x end at p low in
+    let within : at < sizes (one_more root no_branch) = left_low at (one_more root no_branch) next.part (joined next.more next.after) next.stands in
+    omega (arith, within)
+
+pub part_waits : (root x : Branch) (end at : ℕ) → PartsLeft root x end at → at < end → is_waiting (branch_at at root) ≡ true → is_ready x ≡ false
+part_waits root x end at p low waits =
+    let next = next_part root x end at p low in
+    let here = here_at root at next.part (joined next.more next.after) next.stands in
+    next.ready ∙ ap (λ (b : Bool). not b && none_waits next.more) (ap is_waiting (sym here) ∙ waits)
+
+pub part_passed : (root x : Branch) (end at next_at : ℕ) → PartsLeft root x end at → at < end → is_waiting (branch_at at root) ≡ false
+    → next_at ≡ at + size (branch_at at root) → PartsLeft root x end next_at
+part_passed root x end at next_at p low done is_next =
+    let next = next_part root x end at p low in
+    let here : branch_at at root ≡ next.part = here_at root at next.part (joined next.more next.after) next.stands in
+    let long : size (branch_at at root) ≡ size next.part = ap size here in
+    let upto : at + (size next.part + sizes next.more) ≡ end = next.upto in
+    let behind : next_at ≡ at + size next.part = omega (arith, is_next, long) in record {
+      left = next.more;
+      after = next.after;
+      stands =
+          ap (λ (j : ℕ). from_place j (one_more root no_branch)) behind
+          ∙ from_more at (size next.part) (one_more root no_branch)
+          ∙ ap (λ (z : Branches). from_place (size next.part) z) next.stands
+          ∙ from_one next.part (joined next.more next.after);
+      upto = omega (arith, behind, upto);
+      ready = next.ready ∙ ap (λ (b : Bool). not b && none_waits next.more) (ap is_waiting (sym here) ∙ done);
+    }
+
+size_positive : (x : Branch) → 0 < size x
+size_positive (branch bound basic parts list) = omega arith
+
+none_left_over : (xs : Branches) → sizes xs ≡ 0 → none_waits xs ≡ true
+none_left_over no_branch e = refl
+none_left_over (one_more part rest) e = let some : 0 < size part = size_positive part in absurd (omega (arith, e, some))
+
+pub parts_end : (root x : Branch) (end at : ℕ) → PartsLeft root x end at → end ≤ at → is_ready x ≡ true
+parts_end root x end at p past = let upto : at + sizes p.left ≡ end = p.upto in p.ready ∙ none_left_over p.left (omega (arith, upto, past))
+
+-- of a slot
+
+slot_end_of : (at : ℕ) (x : Branch) → (slot_of at x).end ≡ at + size x
+slot_end_of at (branch bound basic parts list) = refl
+
+pub slot_end : (at : ℕ) (x : Branch) (slot : Slot) → slot ≡ slot_of at x → slot.end ≡ at + size x
+slot_end at x slot e = ap (λ (s : Slot). s.end) e ∙ slot_end_of at x
+
+pub slot_end_low : (at : ℕ) (x : Branch) (slot : Slot) → slot ≡ slot_of at x → at < slot.end
+slot_end_low at x slot e =
+    let end : slot.end ≡ at + size x = slot_end at x slot e in
+    let some : 0 < size x = size_positive x in omega (arith, end, some)
+
+-- a branch that does not wait is not ready
+pub done_is_not_ready : (x : Branch) → is_waiting x ≡ false → is_ready x ≡ false
+done_is_not_ready (branch bound basic parts list) done = ap (λ (b : Bool). b && none_waits parts) done
+
+-- all of them, from place to place
+
+ready_here : (i : ℕ) (root : Branch) → i < size root → is_ready (branch_at i root) ≡ true → ready_from i root ≡ i ∷ ready_from (i + 1) root
+ready_here i root low ready =
+    ready_step i root low ∙ ap (λ (b : Bool). cond b (i ∷ ready_from (i + 1) root) (ready_from (i + 1) root)) ready
+
+ready_later : (i : ℕ) (root : Branch) → i < size root → is_ready (branch_at i root) ≡ false → ready_from i root ≡ ready_from (i + 1) root
+ready_later i root low not_ready =
+    ready_step i root low ∙ ap (λ (b : Bool). cond b (i ∷ ready_from (i + 1) root) (ready_from (i + 1) root)) not_ready
+
+-- so many were ready before place i
+pub record CountedTo (root : Branch) (i count : ℕ) : Type 0 where
+  pub low : count ≤ i
+  pub all : count + length (ready_from i root) ≡ length (ready_places 0 root)
+
+pub counted_none : (root : Branch) → CountedTo root 0 0
+counted_none root =
+    let e : length (ready_from 0 root) ≡ length (ready_places 0 root) = ap (λ (z : List ℕ). length z) (ready_all root) in
+    record { low = omega arith; all = omega (arith, e) }
+
+pub counted_one : (root : Branch) (i count new : ℕ) → CountedTo root i count → i < size root → is_ready (branch_at i root) ≡ true → new ≡ count + 1
+    → CountedTo root (i + 1) new
+counted_one root i count new so_far low ready same =
+    let step : length (ready_from i root) ≡ suc (length (ready_from (i + 1) root)) = ap (λ (z : List ℕ). length z) (ready_here i root low ready) in
+    record { low = omega (arith, same, so_far.low); all = omega (arith, same, step, so_far.all) }
+
+pub counted_same : (root : Branch) (i count new : ℕ) → CountedTo root i count → i < size root → is_ready (branch_at i root) ≡ false → new ≡ count
+    → CountedTo root (i + 1) new
+counted_same root i count new so_far low not_ready same =
+    let step : length (ready_from i root) ≡ length (ready_from (i + 1) root) = ap (λ (z : List ℕ). length z) (ready_later i root low not_ready) in
+    record { low = omega (arith, same, so_far.low); all = omega (arith, same, step, so_far.all) }
+
+pub counted_all : (root : Branch) (i count : ℕ) → CountedTo root i count → size root ≤ i → count ≡ length (ready_places 0 root)
+counted_all root i count so_far past =
+    let none : length (ready_from i root) ≡ 0 = ap (λ (z : List ℕ). length z) (ready_none i root past) in omega (arith, none, so_far.all)
+
+-- the one that is looked for is the one with this number from place i on
+pub record PickedFrom (root : Branch) (pick left i : ℕ) : Type 0 where
+  pub low : left < length (ready_from i root)
+  pub same : slice_get (ready_from i root) left ≡ slice_get (ready_places 0 root) pick
+
+pub picked_first : (root : Branch) (pick : ℕ) → pick < length (ready_places 0 root) → PickedFrom root pick pick 0
+picked_first root pick low =
+    let both = subst (λ (z : List ℕ). (pick < length z) × (slice_get z pick ≡ slice_get (ready_places 0 root) pick)) (sym (ready_all root)) (low, refl) in
+    record { low = both.0; same = both.1 }
+
+pub picked_here : (root : Branch) (pick left i : ℕ) → PickedFrom root pick left i → i < size root → is_ready (branch_at i root) ≡ true → left ≡ 0
+    → slice_get (ready_places 0 root) pick ≡ Some i
+picked_here root pick left i p low ready first =
+    sym p.same ∙ ap (λ (z : List ℕ). slice_get z left) (ready_here i root low ready) ∙ ap (λ (k : ℕ). slice_get (i ∷ ready_from (i + 1) root) k) first
+
+behind_first : (x : ℕ) (xs : List ℕ) (left new : ℕ) → ¬ (left ≡ 0) → new ≡ left - 1 → slice_get (x ∷ xs) left ≡ slice_get xs new
+behind_first x xs zero new some same = absurd (some refl)
+behind_first x xs (suc left) new some same = let e : left ≡ new = omega (arith, same) in ap (λ (k : ℕ). slice_get xs k) e
+
+pub picked_more : (root : Branch) (pick left new i : ℕ) → PickedFrom root pick left i → i < size root → is_ready (branch_at i root) ≡ true → ¬ (left ≡ 0)
+    → new ≡ left - 1 → PickedFrom root pick new (i + 1)
+picked_more root pick left new i p low ready some same =
+    let step : ready_from i root ≡ i ∷ ready_from (i + 1) root = ready_here i root low ready in
+    let long : length (ready_from i root) ≡ suc (length (ready_from (i + 1) root)) = ap (λ (z : List ℕ). length z) step in
+    record {
+      low = omega (arith, long, same, some, p.low);
+      same = sym (behind_first i (ready_from (i + 1) root) left new some same) ∙ ap (λ (z : List ℕ). slice_get z left) (sym step) ∙ p.same;
+    }
+
+pub picked_later : (root : Branch) (pick left new i : ℕ) → PickedFrom root pick left i → i < size root → is_ready (branch_at i root) ≡ false → new ≡ left
+    → PickedFrom root pick new (i + 1)
+picked_later root pick left new i p low not_ready same =
+    let step : ready_from i root ≡ ready_from (i + 1) root = ready_later i root low not_ready in
+    let long : length (ready_from i root) ≡ length (ready_from (i + 1) root) = ap (λ (z : List ℕ). length z) step in
+    record {
+      low = omega (arith, long, same, p.low);
+      same =
+          ap (λ (k : ℕ). slice_get (ready_from (i + 1) root) k) same ∙ ap (λ (z : List ℕ). slice_get z left) (sym step) ∙ p.same;
+    }
+
+pub picked_some : (root : Branch) (pick left i : ℕ) → PickedFrom root pick left i → i < size root
+picked_some root pick left i p = elim (cases_lt i (size root)) [
+  | inl low ↦ low
+  | inr past ↦ let none : length (ready_from i root) ≡ 0 = ap (λ (z : List ℕ). length z) (ready_none i root past) in absurd (omega (arith, none, p.low))
+]

@@ -1,6 +1,6 @@
 //! A tree of branches, in one list of slots.
-ghost use Rattle.std.specs.Prelude.{◌≡◌, ◌<◌};
-ghost use Rattle.node_facts.specs.Branches.{size};
+ghost use Rattle.std.specs.Prelude.{◌≡◌, ◌<◌, ◌↔◌, length, slice_get, Some};
+ghost use Rattle.node_facts.specs.Branches.{size, is_waiting, is_ready, ready_places, waiting};
 ghost use Rattle.working_rules.specs.Forests.{branch_at};
 ghost use Rattle.working_rules.specs.Slots.{slot_of};
 
@@ -41,5 +41,64 @@ impl Arena {
         ensures { result.now ≡ slot_of i (branch_at i self.now) }
     {
         &self.slots[i]
+    }
+
+    // The branch at place i has parts and no list.
+    fn is_waiting(&self, i: usize) -> bool
+        requires { i < size self.now }
+        ensures { result ≡ is_waiting (branch_at i self.now) }
+    {
+        let slot = self.slot(i);
+        slot.parts > 0 && slot.list.is_none()
+    }
+
+    // It waits, and none of its parts does.
+    fn is_ready(&self, i: usize) -> bool
+        requires { i < size self.now }
+        ensures { result ≡ is_ready (branch_at i self.now) }
+    {
+        if !self.is_waiting(i) {
+            return false;
+        }
+        let end = self.slot(i).end;
+        let mut part = i + 1;
+        while part < end {
+            if self.is_waiting(part) {
+                return false;
+            }
+            part = self.slot(part).end;
+        }
+        true
+    }
+
+    /// How many branches are ready: they have parts and no list, and none of their parts is so. It takes no memory.
+    pub fn ready(&self) -> usize
+        ensures count { result ≡ length (ready_places 0 self.now) }
+        ensures none { (result ≡ 0) ↔ (waiting self.now ≡ 0) }
+    {
+        let mut count = 0;
+        for i in 0..self.len() {
+            if self.is_ready(i) {
+                count += 1;
+            }
+        }
+        count
+    }
+
+    /// The place of the ready branch with this number, in the order of places. It takes no memory.
+    pub fn ready_place(&self, pick: usize) -> usize
+        requires { pick < length (ready_places 0 self.now) }
+        ensures { slice_get (ready_places 0 self.now) pick ≡ Some result }
+    {
+        let mut left = pick;
+        for i in 0..self.len() {
+            if self.is_ready(i) {
+                if left == 0 {
+                    return i;
+                }
+                left -= 1;
+            }
+        }
+        unreachable!()
     }
 }
