@@ -4,6 +4,7 @@ use Rattle.std.proofs.lemmas.List.{get_or-drop}
 use Rattle.node_facts.specs.Branches.{Branch, Branches, branch, no_branch, one_more, size, sizes}
 use Rattle.working_rules.specs.declared.slot.Slot.{Slot}
 use Rattle.working_rules.specs.Forests.{joined, from_place, first_of, branch_at}
+use Rattle.working_rules.specs.Codes.{root_back}
 use Rattle.working_rules.specs.Slots.{slot_of, slots_of, all_slots_of, root_in, IsTree}
 use Rattle.working_rules.proofs.Forests.{some_left, none_left}
 
@@ -67,3 +68,15 @@ pub tree_slot : (slots : List Slot) (root : Branch) (i : ℕ) (slot : Slot) → 
     → slot ≡ get_or slots i slot → slot ≡ slot_of i (branch_at i root)
 tree_slot slots root i slot seen tree low is =
     is ∙ ap (λ (z : List Slot). get_or z i slot) (tree_is slots root seen tree) ∙ slot_at i root slot low
+
+-- slots that are put into an empty list
+
+planted_slots : (before slots : List Slot) (x : Branch) → before ≡ [] → slots ≡ before ++ slots_of (length before) x → slots ≡ slots_of 0 x
+planted_slots before slots x empty is = is ∙ ap (λ (z : List Slot). z ++ slots_of (length z) x) empty
+
+pub planted_root : (before slots : List Slot) (x : Branch) → before ≡ [] → slots ≡ before ++ slots_of (length before) x → root_in slots ≡ x
+planted_root before slots x empty is = ap (λ (z : List Slot). root_in z) (planted_slots before slots x empty is) ∙ root_back x
+
+pub planted_tree : (before slots : List Slot) (x : Branch) → before ≡ [] → slots ≡ before ++ slots_of (length before) x → IsTree slots
+planted_tree before slots x empty is =
+    planted_slots before slots x empty is ∙ ap (λ (z : Branch). slots_of 0 z) (sym (planted_root before slots x empty is))

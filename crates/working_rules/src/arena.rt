@@ -1,10 +1,15 @@
 //! A tree of branches, in one list of slots.
-ghost use Rattle.std.specs.Prelude.{◌≡◌, ◌<◌, ◌↔◌, length, slice_get, Some};
-ghost use Rattle.node_facts.specs.Branches.{size, is_waiting, is_ready, ready_places, waiting};
+ghost use Rattle.std.specs.Prelude.{◌≡◌, ◌<◌, ◌↔◌, length, slice_get, Some, IfOk};
+ghost use Rattle.flat_form.specs.Normals.{norm_of};
+ghost use Rattle.node_facts.specs.Branches.{unturned, size, is_waiting, is_ready, ready_places, waiting};
 ghost use Rattle.working_rules.specs.Forests.{branch_at};
 ghost use Rattle.working_rules.specs.Slots.{slot_of};
 
 use crate::Slot;
+use crate::planting::plant;
+use flat_form::Normal;
+use lists::NoMemory;
+use std::alloc::Global;
 use std::marker::Model;
 
 /// A tree of branches, each with its list once it has one.
@@ -28,6 +33,15 @@ impl Model for Arena {
 }
 
 impl Arena {
+    /// The tree of a negated conjunction, in which no branch has a list.
+    pub fn plant(alloc: Global, n: &Normal) -> Result<Arena, NoMemory>
+        ensures { IfOk result (λ arena. arena ≡ unturned (norm_of n.now)) }
+    {
+        let mut slots = Vec::new(alloc);
+        plant(alloc, &mut slots, n)?;
+        Ok(Arena { slots })
+    }
+
     /// How many branches there are.
     pub fn len(&self) -> usize
         ensures { result ≡ size self.now }

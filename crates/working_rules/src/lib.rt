@@ -3,6 +3,7 @@
 
 mod arena;
 mod laws;
+mod planting;
 mod slot;
 
 pub use arena::Arena;
