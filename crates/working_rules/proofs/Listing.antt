@@ -8,8 +8,9 @@ use Rattle.node_facts.specs.Places.{changed, changed_one, listed}
 use Rattle.node_facts.proofs.At.{changed_here, changed_later}
 use Rattle.working_rules.specs.declared.slot.Slot.{Slot}
 use Rattle.working_rules.specs.Forests.{count, branch_at}
-use Rattle.working_rules.specs.Slots.{slot_of, slots_of, all_slots_of}
-use Rattle.working_rules.proofs.Slots.{slots_long, slot_at}
+use Rattle.working_rules.specs.Codes.{root_back}
+use Rattle.working_rules.specs.Slots.{slot_of, slots_of, all_slots_of, root_in, IsTree}
+use Rattle.working_rules.proofs.Slots.{slots_long, tree_is}
 
 -- with the list in the slot at place i
 abbrev put : List Cube → ℕ → List Slot → List Slot
@@ -95,3 +96,23 @@ listed_slots list i root d low =
     ∙ ap (λ (z : List Slot). put list i z) (sym (append-nil (slots_of 0 root)))
     ∙ put_one list 0 i root [] low
     ∙ append-nil (slots_of 0 (listed i list root))
+
+-- the slots that are kept, with the list in one of them, by the root that is seen
+put_slots : (list : List Cube) (i : ℕ) (slots : List Slot) (root : Branch) (slot : Slot) → root_in slots ≡ root → IsTree slots → i < size root
+    → slot ≡ get_or slots i slot → set slots i (record slot { list = Some list }) ≡ slots_of 0 (listed i list root)
+put_slots list i slots root slot seen tree low is =
+    let same : slots ≡ slots_of 0 root = tree_is slots root seen tree in
+    ap (λ (z : Slot). set slots i (record z { list = Some list })) is
+    ∙ ap (λ (z : List Slot). set z i (record (get_or z i slot) { list = Some list })) same
+    ∙ listed_slots list i root slot low
+
+pub put_root : (list : List Cube) (i : ℕ) (slots : List Slot) (root : Branch) (slot : Slot) → root_in slots ≡ root → IsTree slots → i < size root
+    → slot ≡ get_or slots i slot → root_in (set slots i (record slot { list = Some list })) ≡ listed i list root
+put_root list i slots root slot seen tree low is =
+    ap (λ (z : List Slot). root_in z) (put_slots list i slots root slot seen tree low is) ∙ root_back (listed i list root)
+
+pub put_tree : (list : List Cube) (i : ℕ) (slots : List Slot) (root : Branch) (slot : Slot) → root_in slots ≡ root → IsTree slots → i < size root
+    → slot ≡ get_or slots i slot → IsTree (set slots i (record slot { list = Some list }))
+put_tree list i slots root slot seen tree low is =
+    put_slots list i slots root slot seen tree low is
+    ∙ ap (λ (z : Branch). slots_of 0 z) (sym (put_root list i slots root slot seen tree low is))

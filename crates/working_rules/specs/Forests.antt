@@ -1,5 +1,6 @@
 -- Branches in the order in which each stands before its parts, and what is left when the first of them are taken off.
-use Rattle.std.specs.Prelude.{ℕ, zero, suc, [], None}
+use Rattle.std.specs.Prelude.{ℕ, zero, suc, List, [], Option, None}
+use Rattle.flat_form.specs.declared.cube.Cube.{Cube}
 use Rattle.node_facts.specs.Branches.{Branch, Branches, branch, no_branch, one_more}
 
 -- how many branches there are, without those in them
@@ -26,3 +27,7 @@ first_of (one_more part rest) = part
 -- the branch at place i, where the root stands at place 0
 abbrev pub branch_at : ℕ → Branch → Branch
 branch_at i root = first_of (from_place i (one_more root no_branch))
+
+-- the list of a branch, if it has one
+abbrev pub list_in : Branch → Option (List Cube)
+list_in (branch bound basic parts list) = list

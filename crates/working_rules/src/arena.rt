@@ -2,12 +2,13 @@
 ghost use Rattle.std.specs.Prelude.{◌≡◌, ◌<◌, ◌↔◌, length, slice_get, Some, IfOk};
 ghost use Rattle.flat_form.specs.Normals.{norm_of};
 ghost use Rattle.node_facts.specs.Branches.{unturned, size, is_waiting, is_ready, ready_places, waiting};
-ghost use Rattle.working_rules.specs.Forests.{branch_at};
+ghost use Rattle.node_facts.specs.Places.{listed};
+ghost use Rattle.working_rules.specs.Forests.{branch_at, list_in};
 ghost use Rattle.working_rules.specs.Slots.{slot_of};
 
 use crate::Slot;
 use crate::planting::plant;
-use flat_form::Normal;
+use flat_form::{Cubes, Normal};
 use lists::NoMemory;
 use std::alloc::Global;
 use std::marker::Model;
@@ -114,5 +115,21 @@ impl Arena {
             }
         }
         unreachable!()
+    }
+
+    /// Puts the list at the branch at place i, in place of the one there, if any. It takes no memory.
+    pub fn put_list(&mut self, i: usize, list: Cubes)
+        requires { i < size self.old }
+        ensures { self.new ≡ listed i list self.old }
+    {
+        self.slots[i].list = Some(list);
+    }
+
+    /// The list of the root, if it has one. It takes no memory.
+    pub fn into_list(self) -> Option<Cubes>
+        ensures { result ≡ list_in self }
+    {
+        let mut slots = self.slots;
+        slots.swap_remove(0).list
     }
 }
