@@ -6,6 +6,7 @@ use Rattle.node_facts.specs.Branches.{Branch, Branches, branch, no_branch, one_m
 use Rattle.working_rules.specs.declared.slot.Slot.{Slot}
 use Rattle.working_rules.specs.Slots.{slot_of}
 use Rattle.working_rules.specs.Forests.{joined, from_place, first_of, branch_at}
+use Rattle.working_rules.proofs.Parts.{PartsFrom, parts_first, some_part, part_low, part_here, parts_more, no_part}
 use Rattle.working_rules.proofs.Forests.{from_more, from_one, some_left, none_left, left_low}
 
 pub ready_joined : (at : ℕ) (xs ys : Branches) → all_ready_places at (joined xs ys) ≡ all_ready_places at xs ++ all_ready_places (at + sizes xs) ys
@@ -50,102 +51,44 @@ ready_all root = append-nil (ready_places 0 root)
 
 -- one branch, by its parts
 
--- those of the parts of x that stand from place `at` on, up to the end of x: x is ready where none of them waits
-pub record PartsLeft (root x : Branch) (end at : ℕ) : Type 0 where
+-- of the parts of x some are left, which stand from place `at` on, up to the end of x: x is ready where none of them waits
+pub record PartsToSee (root x : Branch) (end at : ℕ) : Type 0 where
   pub left : Branches
-  pub after : Branches
-  pub stands : from_place at (one_more root no_branch) ≡ joined left after
-  pub upto : at + sizes left ≡ end
+  pub from : PartsFrom root end at left
   pub ready : is_ready x ≡ none_waits left
 
-pub parts_begin : (root : Branch) (i end : ℕ) (x : Branch) (rest : Branches) → from_place i (one_more root no_branch) ≡ one_more x rest
-    → end ≡ i + size x → is_waiting x ≡ true → PartsLeft root x end (i + 1)
-parts_begin root i end (branch bound basic parts list) rest e same waits = record {
+pub see_first : (root : Branch) (i end : ℕ) (x : Branch) (rest : Branches) → from_place i (one_more root no_branch) ≡ one_more x rest
+    → end ≡ i + size x → is_waiting x ≡ true → PartsToSee root x end (i + 1)
+see_first root i end (branch bound basic parts list) rest stands same waits = record {
   left = parts;
-  after = rest;
-  stands = from_more i 1 (one_more root no_branch) ∙ ap (λ (z : Branches). from_place 1 z) e;
-  upto = omega (arith, same);
+  from = parts_first root i end bound basic parts list rest stands same;
   ready = ap (λ (b : Bool). b && none_waits parts) waits;
 }
 
--- the next of them
-record NextPart (root x : Branch) (end at : ℕ) : Type 0 where
-  part : Branch
-  more : Branches
-  after : Branches
-  stands : from_place at (one_more root no_branch) ≡ one_more part (joined more after)
-  upto : at + (size part + sizes more) ≡ end
-  ready : is_ready x ≡ (not (is_waiting part) && none_waits more)
+pub see_low : (root x : Branch) (end at : ℕ) → PartsToSee root x end at → at < end → at < size root
+see_low root x end at p low =
+    let next = some_part root end at p.left p.from low in
+    part_low root end at next.0 next.1 (subst (λ (z : Branches). PartsFrom root end at z) next.2 p.from)
 
-next_of : (root x : Branch) (end at : ℕ) (left after : Branches) → from_place at (one_more root no_branch) ≡ joined left after → at + sizes left ≡ end
-    → is_ready x ≡ none_waits left → at < end → NextPart root x end at
-next_of root x end at no_branch after stands upto ready low = absurd (omega (arith, upto, low))
-next_of root x end at (one_more part more) after stands upto ready low =
-    record { part = part; more = more; after = after; stands = stands; upto = upto; ready = ready }
+pub seen_waits : (root x : Branch) (end at : ℕ) → PartsToSee root x end at → at < end → is_waiting (branch_at at root) ≡ true → is_ready x ≡ false
+seen_waits root x end at p low waits =
+    let next = some_part root end at p.left p.from low in
+    let here = part_here root end at next.0 next.1 (subst (λ (z : Branches). PartsFrom root end at z) next.2 p.from) in
+    p.ready ∙ ap none_waits next.2 ∙ ap (λ (b : Bool). not b && none_waits next.1) (ap is_waiting (sym here) ∙ waits)
 
-next_part : (root x : Branch) (end at : ℕ) → PartsLeft root x end at → at < end → NextPart root x end at
-next_part root x end at p low = next_of root x end at p.left p.after p.stands p.upto p.ready low
-
-here_at : (root : Branch) (at : ℕ) (part : Branch) (rest : Branches) → from_place at (one_more root no_branch) ≡ one_more part rest → branch_at at root ≡ part
-here_at root at part rest e = ap (λ (z : Branches). first_of z) e
-
-pub part_low : (root x : Branch) (end at : ℕ) → PartsLeft root x end at → at < end → at < size root
-part_low root x end at p low =
-    let next = next_part root x end at p low in
-    let within : at < sizes (one_more root no_branch) = left_low at (one_more root no_branch) next.part (joined next.more next.after) next.stands in
-    omega (arith, within)
-
-pub part_waits : (root x : Branch) (end at : ℕ) → PartsLeft root x end at → at < end → is_waiting (branch_at at root) ≡ true → is_ready x ≡ false
-part_waits root x end at p low waits =
-    let next = next_part root x end at p low in
-    let here = here_at root at next.part (joined next.more next.after) next.stands in
-    next.ready ∙ ap (λ (b : Bool). not b && none_waits next.more) (ap is_waiting (sym here) ∙ waits)
-
-pub part_passed : (root x : Branch) (end at next_at : ℕ) → PartsLeft root x end at → at < end → is_waiting (branch_at at root) ≡ false
-    → next_at ≡ at + size (branch_at at root) → PartsLeft root x end next_at
-part_passed root x end at next_at p low done is_next =
-    let next = next_part root x end at p low in
-    let here : branch_at at root ≡ next.part = here_at root at next.part (joined next.more next.after) next.stands in
-    let long : size (branch_at at root) ≡ size next.part = ap size here in
-    let upto : at + (size next.part + sizes next.more) ≡ end = next.upto in
-    let behind : next_at ≡ at + size next.part = omega (arith, is_next, long) in record {
-      left = next.more;
-      after = next.after;
-      stands =
-          ap (λ (j : ℕ). from_place j (one_more root no_branch)) behind
-          ∙ from_more at (size next.part) (one_more root no_branch)
-          ∙ ap (λ (z : Branches). from_place (size next.part) z) next.stands
-          ∙ from_one next.part (joined next.more next.after);
-      upto = omega (arith, behind, upto);
-      ready = next.ready ∙ ap (λ (b : Bool). not b && none_waits next.more) (ap is_waiting (sym here) ∙ done);
+pub see_more : (root x : Branch) (end at next_at : ℕ) → PartsToSee root x end at → at < end → is_waiting (branch_at at root) ≡ false
+    → next_at ≡ at + size (branch_at at root) → PartsToSee root x end next_at
+see_more root x end at next_at p low done is_next =
+    let next = some_part root end at p.left p.from low in
+    let from = subst (λ (z : Branches). PartsFrom root end at z) next.2 p.from in
+    let here = part_here root end at next.0 next.1 from in record {
+      left = next.1;
+      from = parts_more root end at next_at next.0 next.1 from is_next;
+      ready = p.ready ∙ ap none_waits next.2 ∙ ap (λ (b : Bool). not b && none_waits next.1) (ap is_waiting (sym here) ∙ done);
     }
 
-size_positive : (x : Branch) → 0 < size x
-size_positive (branch bound basic parts list) = omega arith
-
-none_left_over : (xs : Branches) → sizes xs ≡ 0 → none_waits xs ≡ true
-none_left_over no_branch e = refl
-none_left_over (one_more part rest) e = let some : 0 < size part = size_positive part in absurd (omega (arith, e, some))
-
-pub parts_end : (root x : Branch) (end at : ℕ) → PartsLeft root x end at → end ≤ at → is_ready x ≡ true
-parts_end root x end at p past = let upto : at + sizes p.left ≡ end = p.upto in p.ready ∙ none_left_over p.left (omega (arith, upto, past))
-
--- of a slot
-
-slot_end_of : (at : ℕ) (x : Branch) → (slot_of at x).end ≡ at + size x
-slot_end_of at (branch bound basic parts list) = refl
-
-pub slot_end : (at : ℕ) (x : Branch) (slot : Slot) → slot ≡ slot_of at x → slot.end ≡ at + size x
-slot_end at x slot e = ap (λ (s : Slot). s.end) e ∙ slot_end_of at x
-
-pub slot_end_low : (at : ℕ) (x : Branch) (slot : Slot) → slot ≡ slot_of at x → at < slot.end
-slot_end_low at x slot e =
-    let end : slot.end ≡ at + size x = slot_end at x slot e in
-    let some : 0 < size x = size_positive x in omega (arith, end, some)
-
--- a branch that does not wait is not ready
-pub done_is_not_ready : (x : Branch) → is_waiting x ≡ false → is_ready x ≡ false
-done_is_not_ready (branch bound basic parts list) done = ap (λ (b : Bool). b && none_waits parts) done
+pub seen_all : (root x : Branch) (end at : ℕ) → PartsToSee root x end at → end ≤ at → is_ready x ≡ true
+seen_all root x end at p past = p.ready ∙ ap none_waits (no_part root end at p.left p.from past)
 
 -- all of them, from place to place
 

@@ -1,11 +1,13 @@
 -- What stands at a place, as a relation and by the order of places.
-use Rattle.std.proofs.Common.{ℕ, zero, suc, ◌≡◌, ◌+◌, ◌-◌, ◌<◌, List, ◌++◌, refl, sym, ap, ◌∙◌, subst, arith, inl, inr}
+use Rattle.std.proofs.Common.{ℕ, zero, suc, ◌≡◌, ◌+◌, ◌-◌, ◌<◌, List, ◌++◌, Option, refl, sym, ap, ◌∙◌, subst, arith, inl, inr}
 use Rattle.std.proofs.lemmas.Bool.{cases_lt}
 use Rattle.flat_form.specs.declared.atom.Flat.{Flat}
+use Rattle.flat_form.specs.declared.cube.Cube.{Cube}
 use Rattle.node_facts.specs.Branches.{Branch, Branches, branch, no_branch, one_more, size, sizes}
 use Rattle.node_facts.specs.Places.{At, AtOne}
+use Rattle.node_facts.proofs.Counts.{at_low}
 use Rattle.working_rules.specs.Forests.{joined, from_place, first_of, branch_at}
-use Rattle.working_rules.specs.StandingLaws.{StandsInOrder, StandsSome}
+use Rattle.working_rules.specs.StandingLaws.{StandsInOrder, StandsSome, StandsInside}
 use Rattle.working_rules.proofs.Forests.{from_more, from_one, joined_none}
 
 mutual
@@ -59,3 +61,41 @@ stands_some n i round root low =
       found.1,
       subst (λ (z : Branch). At n round root i found.0 found.1 z) (sym (stands_at n i found.0 round found.1 root found.2 found.3)) found.3,
     )
+
+-- what stands inside a branch
+
+further : (n i j k : ℕ) (round within : List Flat) (bound : ℕ) (basic : List Flat) (parts : Branches) (list : Option (List Cube)) (x : Branch)
+    → AtOne (n + bound) (round ++ basic) parts (i + j) k within x → At n round (branch bound basic parts list) (suc i + j) k within x
+further n i j k round within bound basic parts list x at =
+    let e : suc (i + j) ≡ suc i + j = omega arith in
+    subst (λ (p : ℕ). At n round (branch bound basic parts list) p k within x) e at
+
+mutual
+  inside : (n i m j k : ℕ) (round under within : List Flat) (root : Branch) (bound : ℕ) (basic : List Flat) (parts : Branches) (list : Option (List Cube)) (x : Branch)
+      → At n round root i m under (branch bound basic parts list) → AtOne (m + bound) (under ++ basic) parts j k within x
+      → At n round root (i + suc j) k within x
+  inside n zero m j k round under within (branch own atoms all kept) bound basic parts list x (same_n, same_round, same) at =
+      let e : suc j ≡ 0 + suc j = omega arith in
+      let here : At m under (branch bound basic parts list) (suc j) k within x = at in
+      subst (λ (p : ℕ). At n round (branch own atoms all kept) p k within x) e
+      (subst (λ (z : Branch). At n round z (suc j) k within x) same
+      (subst (λ (z : List Flat). At n z (branch bound basic parts list) (suc j) k within x) same_round
+      (subst (λ (p : ℕ). At p under (branch bound basic parts list) (suc j) k within x) same_n here)))
+  inside n (suc i) m j k round under within (branch own atoms all kept) bound basic parts list x stands at =
+      further n i (suc j) k round within own atoms all kept x
+      (inside_one (n + own) i m j k (round ++ atoms) under within all bound basic parts list x stands at)
+
+  inside_one : (n i m j k : ℕ) (round under within : List Flat) (all : Branches) (bound : ℕ) (basic : List Flat) (parts : Branches) (list : Option (List Cube)) (x : Branch)
+      → AtOne n round all i m under (branch bound basic parts list) → AtOne (m + bound) (under ++ basic) parts j k within x
+      → AtOne n round all (i + suc j) k within x
+  inside_one n i m j k round under within no_branch bound basic parts list x stands at = absurd stands
+  inside_one n i m j k round under within (one_more part rest) bound basic parts list x (inl (low, stands)) at =
+      let there = inside n i m j k round under within part bound basic parts list x stands at in
+      inl (at_low n (i + suc j) k round within part x there, there)
+  inside_one n i m j k round under within (one_more part rest) bound basic parts list x (inr (p, same, stands)) at =
+      let there = inside_one n p m j k round under within rest bound basic parts list x stands at in inr (p + suc j, omega (arith, same), there)
+
+pub stands_inside : StandsInside
+stands_inside n i m j k round under within root bound basic parts list x stands at =
+    let e : i + suc j ≡ i + 1 + j = omega arith in
+    subst (λ (p : ℕ). At n round root p k within x) e (inside n i m j k round under within root bound basic parts list x stands at)
