@@ -103,7 +103,8 @@ impl Arena {
     /// The place of the ready branch with this number, in the order of places. It takes no memory.
     pub fn ready_place(&self, pick: usize) -> usize
         requires { pick < length (ready_places 0 self.now) }
-        ensures { slice_get (ready_places 0 self.now) pick ≡ Some result }
+        ensures place { slice_get (ready_places 0 self.now) pick ≡ Some result }
+        ensures within { result < size self.now }
     {
         let mut left = pick;
         for i in 0..self.len() {

@@ -9,3 +9,6 @@ mod slot;
 pub use arena::Arena;
 pub use laws::{standing_laws, turned_laws};
 pub use slot::Slot;
+
+#[cfg(test)]
+mod tests;

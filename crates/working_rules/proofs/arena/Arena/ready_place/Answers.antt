@@ -6,8 +6,8 @@ use Rattle.working_rules.proofs.arena.Arena.ready_place.Goals.{then-is_ready+els
 pub loop-i-init : goal.loop-i-init
 loop-i-init c = picked_first c.args.self.now c.args.pick c.requires
 
-pub returns-then-left-eq0 : goal.returns-then-left-eq0
-returns-then-left-eq0 c =
+pub returns-then-left-eq0-clause-place : goal.returns-then-left-eq0-clause-place
+returns-then-left-eq0-clause-place c =
     picked_here c.args.self.now c.args.pick c.loop-i.left c.loop-i.i c.loop-i.invariant (omega (arith, c.len-i-end.ensures, c.loop-i-test.true))
     (sym c.is_ready.ensures ∙ c.if-is_ready.true) c.if-left-eq0.true
 
