@@ -1,13 +1,13 @@
 -- A list that is put into a slot is put at that place of the tree.
-use Rattle.std.specs.Prelude.{ltb, Some}
-use Rattle.std.proofs.Common.{ℕ, zero, suc, ◌≡◌, ◌+◌, ◌-◌, ◌<◌, ◌≤◌, List, [], ◌∷◌, ◌++◌, length, get_or, set, refl, sym, ap, ◌∙◌, subst, arith, zero-add, append_assoc, append-nil, inl, inr}
+use Rattle.std.specs.Prelude.{Some}
+use Rattle.std.proofs.Common.{ℕ, zero, suc, ◌≡◌, ◌+◌, ◌-◌, ◌<◌, List, [], ◌∷◌, ◌++◌, length, get_or, set, refl, sym, ap, ◌∙◌, arith, append_assoc, append-nil, inl, inr}
 use Rattle.std.proofs.lemmas.Bool.{cases_lt}
 use Rattle.flat_form.specs.declared.cube.Cube.{Cube}
 use Rattle.node_facts.specs.Branches.{Branch, Branches, branch, no_branch, one_more, size, sizes, with_list}
-use Rattle.node_facts.specs.Places.{changed, changed_one, listed}
+use Rattle.node_facts.specs.Places.{changed_one, listed}
 use Rattle.node_facts.proofs.At.{changed_here, changed_later}
 use Rattle.working_rules.specs.declared.slot.Slot.{Slot}
-use Rattle.working_rules.specs.Forests.{count, branch_at}
+use Rattle.working_rules.specs.Forests.{count}
 use Rattle.working_rules.specs.Codes.{root_back}
 use Rattle.working_rules.specs.Slots.{slot_of, slots_of, all_slots_of, root_in, IsTree}
 use Rattle.working_rules.proofs.Slots.{slots_long, tree_is}

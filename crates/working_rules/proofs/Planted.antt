@@ -1,6 +1,6 @@
 -- The slots of a negated conjunction, one part after the other.
 use Rattle.std.specs.Prelude.{slice_get, Some, None}
-use Rattle.std.proofs.Common.{ℕ, zero, suc, ◌≡◌, ◌+◌, ◌<◌, ◌≤◌, List, [], ◌∷◌, ◌++◌, length, drop, Option, get_or, set, refl, sym, ap, ◌∙◌, subst, arith, append_assoc, append-nil, length-append}
+use Rattle.std.proofs.Common.{ℕ, suc, ◌≡◌, ◌+◌, ◌≤◌, List, [], ◌∷◌, ◌++◌, length, drop, Option, get_or, set, refl, sym, ap, ◌∙◌, arith, append_assoc, append-nil, length-append}
 use Rattle.std.proofs.lemmas.List.{drop_more, drop_all, set_at, get_or_at, length_push}
 use Rattle.std.proofs.lemmas.Option.{slice_get_within, get_or_from_slice_get}
 use Rattle.flat_form.specs.declared.atom.Flat.{Flat}
@@ -8,12 +8,12 @@ use Rattle.flat_form.specs.declared.cube.Cube.{Cube}
 use Rattle.flat_form.specs.declared.normal.Normal.{Normal}
 use Rattle.flat_form.specs.declared.normal.Normals.{Normals}
 use Rattle.flat_form.specs.declared.normal.Normal.TheViews.{out-Normal}
-use Rattle.flat_form.specs.Normals.{Norm, Norms, norm, norm_of, norms_of, list_of}
+use Rattle.flat_form.specs.Normals.{Norm, Norms, norm_of, norms_of, list_of}
 use Rattle.normal_form.proofs.NormLists.{norms_list, norms_by_list, norm_by_fields}
-use Rattle.node_facts.specs.Branches.{Branch, Branches, branch, size, sizes, unturned, all_unturned}
+use Rattle.node_facts.specs.Branches.{Branch, Branches, size, sizes, unturned, all_unturned}
 use Rattle.working_rules.specs.declared.slot.Slot.{Slot}
 use Rattle.working_rules.specs.Forests.{count}
-use Rattle.working_rules.specs.Slots.{slot_of, slots_of, all_slots_of}
+use Rattle.working_rules.specs.Slots.{slots_of, all_slots_of}
 use Rattle.working_rules.proofs.Slots.{slots_long, all_slots_long}
 
 -- the slots, and then those of branches

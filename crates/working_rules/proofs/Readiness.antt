@@ -1,13 +1,11 @@
 -- Which branches are ready, from a place on.
 use Rattle.std.specs.Prelude.{Bool, not, ◌&&◌, cond, slice_get, Some}
-use Rattle.std.proofs.Common.{ℕ, zero, suc, ◌≡◌, ◌+◌, ◌-◌, ◌<◌, ◌≤◌, List, [], ◌∷◌, ◌++◌, length, true, false, refl, sym, ap, ◌∙◌, subst, arith, zero-add, add-zero, append_assoc, append-nil, inl, inr}
+use Rattle.std.proofs.Common.{ℕ, zero, suc, ◌≡◌, ◌+◌, ◌-◌, ◌<◌, ◌≤◌, List, [], ◌∷◌, ◌++◌, length, true, false, refl, sym, ap, ◌∙◌, subst, arith, add-zero, append_assoc, append-nil, inl, inr}
 use Rattle.std.proofs.lemmas.Bool.{cases_lt}
 use Rattle.node_facts.specs.Branches.{Branch, Branches, branch, no_branch, one_more, size, sizes, is_waiting, none_waits, is_ready, ready_places, all_ready_places}
-use Rattle.working_rules.specs.declared.slot.Slot.{Slot}
-use Rattle.working_rules.specs.Slots.{slot_of}
-use Rattle.working_rules.specs.Forests.{joined, from_place, first_of, branch_at}
+use Rattle.working_rules.specs.Forests.{joined, from_place, branch_at}
 use Rattle.working_rules.proofs.Parts.{PartsFrom, parts_first, some_part, part_low, part_here, parts_more, no_part}
-use Rattle.working_rules.proofs.Forests.{from_more, from_one, some_left, none_left, left_low}
+use Rattle.working_rules.proofs.Forests.{from_more, some_left, none_left}
 
 pub ready_joined : (at : ℕ) (xs ys : Branches) → all_ready_places at (joined xs ys) ≡ all_ready_places at xs ++ all_ready_places (at + sizes xs) ys
 ready_joined at no_branch ys = ap (λ (j : ℕ). all_ready_places j ys) (sym (add-zero at))

@@ -1,12 +1,12 @@
 -- A tree of branches and its slots.
-use Rattle.std.proofs.Common.{ℕ, zero, suc, ◌≡◌, ◌+◌, ◌<◌, ◌≤◌, List, [], ◌∷◌, ◌++◌, length, drop, get_or, refl, sym, ap, ◌∙◌, subst, arith, zero-add, add-zero, append_assoc, append-nil, length-append}
+use Rattle.std.proofs.Common.{ℕ, zero, suc, ◌≡◌, ◌+◌, ◌<◌, List, [], ◌++◌, length, drop, get_or, refl, sym, ap, ◌∙◌, arith, add-zero, append_assoc, append-nil, length-append}
 use Rattle.std.proofs.lemmas.List.{get_or-drop}
 use Rattle.node_facts.specs.Branches.{Branch, Branches, branch, no_branch, one_more, size, sizes}
 use Rattle.working_rules.specs.declared.slot.Slot.{Slot}
-use Rattle.working_rules.specs.Forests.{joined, from_place, first_of, branch_at}
+use Rattle.working_rules.specs.Forests.{joined, from_place, branch_at}
 use Rattle.working_rules.specs.Codes.{root_back}
 use Rattle.working_rules.specs.Slots.{slot_of, slots_of, all_slots_of, root_in, IsTree}
-use Rattle.working_rules.proofs.Forests.{some_left, none_left}
+use Rattle.working_rules.proofs.Forests.{some_left}
 
 mutual
   pub slots_long : (at : ℕ) (x : Branch) → length (slots_of at x) ≡ size x

@@ -8,7 +8,7 @@ use Rattle.node_facts.specs.Places.{At, AtOne}
 use Rattle.node_facts.proofs.Counts.{at_low}
 use Rattle.working_rules.specs.Forests.{joined, from_place, first_of, branch_at}
 use Rattle.working_rules.specs.StandingLaws.{StandsInOrder, StandsSome, StandsInside}
-use Rattle.working_rules.proofs.Forests.{from_more, from_one, joined_none}
+use Rattle.working_rules.proofs.Forests.{from_more, from_one}
 
 mutual
   -- what stands at a place is the first of what stands from there on

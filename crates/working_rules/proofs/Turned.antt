@@ -1,10 +1,9 @@
 -- What a turn does to the state.
-use Rattle.std.specs.Prelude.{◌&&◌, slice_get, Some, Contains, ◌↔◌}
-use Rattle.std.proofs.Common.{ℕ, ◌≡◌, ◌+◌, List, [], true, refl, sym, ap, ◌∙◌, subst, arith, inl, inr}
+use Rattle.std.specs.Prelude.{slice_get, Some, Contains, ◌↔◌}
+use Rattle.std.proofs.Common.{ℕ, ◌≡◌, ◌+◌, List, [], true, sym, ap, ◌∙◌, subst, arith, inl, inr}
 use Rattle.std.proofs.lemmas.Bool.{both_ways, cases_Bool, and_left}
 use Rattle.std.proofs.lemmas.Option.{slice_get_within, get_or_from_slice_get}
 use Rattle.tree_model.specs.Signatures.{Signature}
-use Rattle.tree_model.specs.Valuations.{Valuation}
 use Rattle.flat_form.specs.Fitting.{NormFits}
 use Rattle.node_facts.specs.Agreement.{IsHeld}
 use Rattle.node_facts.specs.Branches.{Branch, branch, norm_in, is_waiting, none_waits, is_ready, waiting, ready_places, BranchHolds, BranchOver}

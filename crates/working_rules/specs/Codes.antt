@@ -1,11 +1,11 @@
 -- How the logic stores a tree of branches: by its slots, which give it back. No clause reads these words.
-use Rattle.std.proofs.Common.{ℕ, zero, suc, ◌≡◌, ◌+◌, List, [], ◌∷◌, ◌++◌, refl, sym, ap, ◌∙◌, append-nil, append_assoc}
+use Rattle.std.proofs.Common.{ℕ, ◌≡◌, ◌+◌, List, [], ◌++◌, refl, sym, ap, ◌∙◌, append-nil, append_assoc}
 use Rattle.std.specs.Coded.{Coded, code_by, coded_list}
 use Rattle.node_facts.specs.Branches.{Branch, Branches, branch, no_branch, one_more, size}
 use Rattle.working_rules.specs.contracts.slot.Slot as stored
 use Rattle.working_rules.specs.declared.slot.Slot.{Slot}
 use Rattle.working_rules.specs.Forests.{count, joined, first_of}
-use Rattle.working_rules.specs.Slots.{slots_of, all_slots_of, slot_of, front, behind, grown, root_in}
+use Rattle.working_rules.specs.Slots.{slots_of, all_slots_of, front, behind, grown, root_in}
 
 pub front_joined : (xs ys : Branches) → front (count xs) (joined xs ys) ≡ xs
 front_joined no_branch ys = refl

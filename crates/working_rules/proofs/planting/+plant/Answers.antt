@@ -1,4 +1,4 @@
-use Rattle.std.proofs.Common.{◌≡◌, length, sym, refl, arith}
+use Rattle.std.proofs.Common.{refl, arith}
 use Rattle.working_rules.proofs.Planted.{plants_first, plants_more, plants_all, planted}
 use Rattle.working_rules.proofs.planting.+plant.Goals as goal
 

@@ -1,4 +1,4 @@
-use Rattle.std.proofs.Common.{◌≡◌, true, false, sym, ◌∙◌, arith}
+use Rattle.std.proofs.Common.{sym, ◌∙◌, arith}
 use Rattle.node_facts.specs.Branches.{no_branch, one_more}
 use Rattle.working_rules.specs.Forests.{branch_at}
 use Rattle.working_rules.proofs.Forests.{some_left}

@@ -1,5 +1,4 @@
-use Rattle.std.proofs.Common.{◌≡◌, length, sym, ◌∙◌, subst, arith}
-use Rattle.node_facts.specs.Branches.{ready_places, waiting}
+use Rattle.std.proofs.Common.{sym, ◌∙◌, arith}
 use Rattle.node_facts.proofs.Counts.{ready_unless_done}
 use Rattle.working_rules.proofs.Readiness.{counted_none, counted_one, counted_same, counted_all}
 use Rattle.working_rules.proofs.arena.Arena.ready.Goals as goal

@@ -1,4 +1,4 @@
-use Rattle.std.proofs.Common.{◌≡◌, length, sym, ◌∙◌, arith}
+use Rattle.std.proofs.Common.{sym, ◌∙◌, arith}
 use Rattle.working_rules.proofs.Readiness.{picked_first, picked_here, picked_more, picked_later, picked_some}
 use Rattle.working_rules.proofs.arena.Arena.ready_place.Goals as goal
 use Rattle.working_rules.proofs.arena.Arena.ready_place.Goals.{then-is_ready+else-left-eq0, else-is_ready}
