@@ -8,10 +8,6 @@ pub sizes_joined : (xs ys : Branches) → sizes (joined xs ys) ≡ sizes xs + si
 sizes_joined no_branch ys = sym (zero-add (sizes ys))
 sizes_joined (one_more part rest) ys = let e : sizes (joined rest ys) ≡ sizes rest + sizes ys = sizes_joined rest ys in omega (arith, e)
 
-pub joined_none : (xs : Branches) → joined xs no_branch ≡ xs
-joined_none no_branch = refl
-joined_none (one_more part rest) = ap (λ (z : Branches). one_more part z) (joined_none rest)
-
 from_none : (i : ℕ) → from_place i no_branch ≡ no_branch
 from_none zero = refl
 from_none (suc i) = refl

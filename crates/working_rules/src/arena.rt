@@ -43,14 +43,14 @@ impl Arena {
         Ok(Arena { slots })
     }
 
-    /// How many branches there are.
+    /// How many branches there are. It takes no memory.
     pub fn len(&self) -> usize
         ensures { result ≡ size self.now }
     {
         self.slots.len()
     }
 
-    /// What is noted of the branch at place i, where the root stands at place 0.
+    /// What is noted of the branch at place i, where the root stands at place 0. It takes no memory.
     pub fn slot(&self, i: usize) -> &Slot
         requires { i < size self.now }
         ensures { result.now ≡ slot_of i (branch_at i self.now) }
