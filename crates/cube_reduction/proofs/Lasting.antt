@@ -1,6 +1,7 @@
 -- What becomes of parts of a cube whose variables keep their numbers, one after the other.
 use Rattle.std.specs.Prelude.{Contains}
-use Rattle.std.proofs.Common.{ℕ, ◌≡◌, ◌+◌, ◌<◌, ◌≤◌, Bool, true, false, List, [], ◌∷◌, ◌++◌, length, get_or, refl, sym, subst, arith, append_assoc, append-nil}
+use Rattle.std.proofs.Common.{ℕ, ◌≡◌, ◌+◌, ◌<◌, ◌≤◌, Bool, true, false, List, [], ◌∷◌, ◌++◌, length, get_or, refl, sym, subst, arith, append_assoc, append-nil, ap, ◌∙◌}
+use Rattle.std.proofs.lemmas.List.{length-append}
 use Rattle.std.proofs.lemmas.List.Elements.{All-contains, All-cons, All-nil}
 use Rattle.tree_facts.proofs.Members.{contains_first}
 use Rattle.flat_form.specs.declared.atom.Flat.{Flat}
@@ -15,12 +16,32 @@ use Rattle.cube_facts.proofs.Settle.{settled_parts_shape}
 use Rattle.numbering.specs.Finishing.{Joins}
 use Rattle.numbering.specs.Inner.{IsReached}
 use Rattle.cube_reduction.specs.declared.fates.Fate.{Fate}
-use Rattle.cube_reduction.specs.Fates.{Becomes, drops, drops_then, implied, stays, IsTaken, Stay}
+use Rattle.cube_reduction.specs.Fates.{Becomes, drops, drops_then, implied, stays, changes, IsTaken, Stay}
 use Rattle.cube_reduction.proofs.SettledParts.{AreSettled, none_settled, one_dropped, one_settled, all_are_settled, none_empty_more}
 
 pub nothing_in : {A : Type 0} (xs : List A) → length xs ≡ 0 → xs ≡ []
 nothing_in [] e = refl
 nothing_in (x ∷ rest) e = absurd (cc e)
+
+-- the item that follows those so far stands at their number, and they grow by it
+pub next_at : {A : Type 0} (all so_far left rest : List A) (x : A) → so_far ++ left ≡ all → left ≡ x ∷ rest
+    → (length so_far < length all) × (x ≡ get_or all (length so_far) x) × ((so_far ++ x ∷ []) ++ rest ≡ all) × (length so_far + 1 ≡ length (so_far ++ x ∷ []))
+next_at {A} all so_far left rest x whole is =
+    let e : so_far ++ x ∷ rest ≡ all = ap (λ (z : List A). so_far ++ z) (sym is) ∙ whole in (
+      subst (λ (z : List A). length so_far < length z) e (omega (arith, length-append so_far (x ∷ rest))),
+      subst (λ (z : List A). x ≡ get_or z (length so_far) x) e (there so_far),
+      append_assoc so_far (x ∷ []) rest ∙ e,
+      omega (arith, length-append so_far (x ∷ [])),
+    )
+  where
+    there : (xs : List A) → x ≡ get_or (xs ++ x ∷ rest) (length xs) x
+    there [] = refl
+    there (y ∷ xs) = there xs
+
+-- where nothing follows, they are all
+pub nothing_left : {A : Type 0} (all so_far left : List A) → left ≡ [] → so_far ++ left ≡ all → length all ≤ length so_far
+nothing_left {A} all so_far left none whole =
+    subst (λ (z : List A). length z ≤ length so_far) (sym (append-nil so_far) ∙ ap (λ (z : List A). so_far ++ z) (sym none) ∙ whole) (omega arith)
 
 -- a part that was settled
 module _ (m : ℕ) (base : List Flat) (part after : Part) (solved : IsSolved base) (base_over : BasicOver m base) (over : PartOver m part) (is : SettlesTo m base part after) where
@@ -80,7 +101,19 @@ module _ (m : ℕ) (base : List Flat) where
       subst (λ (z : List Part). Finishes m [] z out) (sym (append_assoc second (next ∷ []) rest)) (so_far (next ∷ rest) out (new done next numbered rest out is fresh f))
 
   module _ (parts : List Part) (i : ℕ) (part : Part) (within : i < length parts) (at : part ≡ get_or parts i part) where
-    pub lasts_more : (done after : List Part) (fate : Fate) (on : Bool) → Becomes m base part fate → IsTaken fate done after on → on ≡ true → Lasts parts i done
+    -- a part that stays, as the numbered one
+    lasts_on : (done after : List Part) (one two numbered : Part) → SettlesTo m base part one → ¬ (one.basic ≡ []) → SettlesTo m base one two → NumbersInner m two numbered
+        → Joins numbered done after → Lasts parts i done → Lasts parts (i + 1) after
+    lasts_on done after one two numbered to some again inner taken l = record {
+      first = l.first ++ one ∷ [];
+      second = l.second ++ two ∷ [];
+      settled_so_far = one_settled m base parts i part within at l.first (l.first ++ one ∷ []) one refl to l.settled_so_far;
+      some_atom = none_empty_more l.first (l.first ++ one ∷ []) one refl some l.some_atom;
+      again = settles_on l.first l.second one two again l.again;
+      finishes = joined_finishes l.second done after numbered two inner taken l.finishes;
+    }
+
+    pub lasts_more : (done after : List Part) (fate : Fate) (on : Bool) → Becomes m base part fate → IsTaken part fate done after on → on ≡ true → Lasts parts i done
         → Lasts parts (i + 1) after
     lasts_more done after fate on (drops none) taken up l = record {
       first = l.first;
@@ -99,14 +132,8 @@ module _ (m : ℕ) (base : List Flat) where
       finishes = subst (λ (z : List Part). (rest out : List Part) → Finishes m z rest out → Finishes m [] (l.second ++ rest) out) (sym taken.1) l.finishes;
     }
     lasts_more done after fate on (implied is) taken up l = absurd (cc (taken, up))
-    lasts_more done after fate on (stays one two numbered to some again inner) taken up l = record {
-      first = l.first ++ one ∷ [];
-      second = l.second ++ two ∷ [];
-      settled_so_far = one_settled m base parts i part within at l.first (l.first ++ one ∷ []) one refl to l.settled_so_far;
-      some_atom = none_empty_more l.first (l.first ++ one ∷ []) one refl some l.some_atom;
-      again = settles_on l.first l.second one two again l.again;
-      finishes = joined_finishes l.second done after numbered two inner taken.1 l.finishes;
-    }
+    lasts_more done after fate on (stays one two to some again inner) taken up l = lasts_on done after one two part to some again inner taken.1 l
+    lasts_more done after fate on (changes one two numbered to some again inner) taken up l = lasts_on done after one two numbered to some again inner taken.1 l
 
   pub lasts_all : (parts : List Part) (i : ℕ) (done : List Part) → length parts ≤ i → Lasts parts i done → Stay m base parts done
   lasts_all parts i done end l = record {
@@ -119,8 +146,9 @@ module _ (m : ℕ) (base : List Flat) where
   }
 
   -- the work ends at a part that is implied
-  pub is_implied : (part : Part) (done after : List Part) (fate : Fate) (on : Bool) → Becomes m base part fate → IsTaken fate done after on → on ≡ false → IsImplied m base part
+  pub is_implied : (part : Part) (done after : List Part) (fate : Fate) (on : Bool) → Becomes m base part fate → IsTaken part fate done after on → on ≡ false → IsImplied m base part
   is_implied part done after fate on (drops none) taken off = absurd (cc (taken.0, off))
   is_implied part done after fate on (drops_then one to some none) taken off = absurd (cc (taken.0, off))
   is_implied part done after fate on (implied is) taken off = is
-  is_implied part done after fate on (stays one two numbered to some again inner) taken off = absurd (cc (taken.0, off))
+  is_implied part done after fate on (stays one two to some again inner) taken off = absurd (cc (taken.0, off))
+  is_implied part done after fate on (changes one two numbered to some again inner) taken off = absurd (cc (taken.0, off))

@@ -1,10 +1,11 @@
 //! What becomes of the parts of a grouped cube whose variables keep their numbers: each is settled, settled again over the
 //! same conjunction, and its inner variables are numbered. So it depends on the part and the conjunction alone.
-ghost use Rattle.std.specs.Prelude.{◌≡◌, ◌↔◌, IfOk, IsTrue, MatchOption, All, Contains, Some, slice_get};
+ghost use Rattle.std.specs.Prelude.{◌≡◌, ◌↔◌, IfOk, OnOk, IsTrue, MatchOption, All, Contains, Some, slice_get};
 ghost use Rattle.flat_form.specs.declared.cube.Part.{Part};
 ghost use Rattle.flat_form.specs.Numbering.{BasicOver, PartOver};
 ghost use Rattle.flat_form.specs.Solved.{IsSolved};
 ghost use Rattle.flat_form.specs.Steps.{SettlesTo, IsImplied};
+ghost use Rattle.numbering.specs.Finishing.{Joins};
 ghost use Rattle.cube_reduction.specs.Settling.{ComesTo};
 ghost use Rattle.cube_reduction.specs.declared.fates.Fate.{Fate};
 ghost use Rattle.cube_reduction.specs.Fates.{Becomes, IsTaken, Stay};
@@ -24,8 +25,10 @@ pub(crate) enum Fate {
     Drops,
     /// It holds wherever the base does.
     Implied,
-    /// It stays, as this part.
-    Stays(Part),
+    /// It stays as it is.
+    Stays,
+    /// It becomes this part.
+    Changes(Part),
 }
 
 // What the part comes to when it is settled again, where it was settled to the first.
@@ -63,7 +66,11 @@ fn fate_of(alloc: Global, over: &Over, part: &Part) -> Result<Fate, NoMemory>
     let Some(second) = settled_again(alloc, over, part, first)? else {
         return Ok(Fate::Drops);
     };
-    Ok(Fate::Stays(number_inner(alloc, over.count, &second)?))
+    let new = number_inner(alloc, over.count, &second)?;
+    if is_same_part(&new, part) {
+        return Ok(Fate::Stays);
+    }
+    Ok(Fate::Changes(new))
 }
 
 // Whether the part stands in the list.
@@ -78,17 +85,41 @@ fn is_among(parts: &[Part], part: &Part) -> bool
     false
 }
 
-// Puts a part that stays last, unless it stands in the list. False where the part is implied.
-fn take_fate(alloc: Global, done: &mut Parts, fate: &Fate) -> Result<bool, NoMemory>
-    ensures { IfOk result (IsTaken fate.now done.old done.new) }
+// Puts the part last, unless it stands in the list.
+fn push_new(done: &mut Parts, part: Part) -> Result<(), NoMemory>
+    ensures { OnOk result (Joins part done.old done.new) }
+{
+    if is_among(done.as_slice(), &part) {
+        return Ok(());
+    }
+    done.push(part)?;
+    Ok(())
+}
+
+// Puts a copy of the part last, unless it stands in the list.
+fn push_copy(alloc: Global, done: &mut Parts, part: &Part) -> Result<(), NoMemory>
+    ensures { OnOk result (Joins part.now done.old done.new) }
+{
+    if is_among(done.as_slice(), part) {
+        return Ok(());
+    }
+    done.push(part.copy(alloc)?)?;
+    Ok(())
+}
+
+// Puts what becomes of the part last, unless it stands in the list. False where the part is implied.
+fn take_fate(alloc: Global, done: &mut Parts, part: Part, fate: &Fate) -> Result<bool, NoMemory>
+    ensures { IfOk result (IsTaken part fate.now done.old done.new) }
 {
     match fate {
         Fate::Drops => Ok(true),
         Fate::Implied => Ok(false),
-        Fate::Stays(part) => {
-            if !is_among(done.as_slice(), part) {
-                done.push(part.copy(alloc)?)?;
-            }
+        Fate::Stays => {
+            push_new(done, part)?;
+            Ok(true)
+        }
+        Fate::Changes(new) => {
+            push_copy(alloc, done, new)?;
             Ok(true)
         }
     }
@@ -100,22 +131,23 @@ fn take_part(
     memory: &mut Memory,
     place: usize,
     over: &Over,
-    part: &Part,
+    part: Part,
     done: &mut Parts,
 ) -> Result<bool, NoMemory>
     requires place { slice_get memory.old place ≡ Some over.now.base }
     requires solved { IsSolved over.now.base }
     requires base { BasicOver over.now.count over.now.base }
-    requires part { PartOver over.now.count part.now }
+    requires part { PartOver over.now.count part }
     ensures kept { memory.new ≡ memory.old }
-    ensures taken { IfOk result (λ goes_on. (fate : Fate) × Becomes over.now.count over.now.base part.now fate × IsTaken fate done.old done.new goes_on) }
+    ensures taken { IfOk result (λ goes_on. (fate : Fate) × Becomes over.now.count over.now.base part fate × IsTaken part fate done.old done.new goes_on) }
 {
-    if let Some(fate) = memory.recall(place, over.count, part) {
-        return take_fate(alloc, done, fate);
+    if let Some(fate) = memory.recall(place, over.count, &part) {
+        return take_fate(alloc, done, part, fate);
     }
-    let fate = fate_of(alloc, over, part)?;
-    let goes_on = take_fate(alloc, done, &fate)?;
-    memory.note(place, over.count, part.copy(alloc)?, fate)?;
+    let fate = fate_of(alloc, over, &part)?;
+    let known = part.copy(alloc)?;
+    let goes_on = take_fate(alloc, done, part, &fate)?;
+    memory.note(place, over.count, known, fate)?;
     Ok(goes_on)
 }
 
@@ -124,17 +156,17 @@ pub(crate) fn staying(
     alloc: Global,
     memory: &mut Memory,
     over: &Over,
-    parts: &[Part],
+    parts: Parts,
 ) -> Result<Option<Parts>, NoMemory>
     requires solved { IsSolved over.now.base }
     requires base { BasicOver over.now.count over.now.base }
-    requires parts { All (PartOver over.now.count) parts.now }
-    ensures { IfOk result (λ found. MatchOption found ((part : Part) × Contains parts.now part × IsImplied over.now.count over.now.base part)
-        (Stay over.now.count over.now.base parts.now)) }
+    requires parts { All (PartOver over.now.count) parts }
+    ensures { IfOk result (λ found. MatchOption found ((part : Part) × Contains parts part × IsImplied over.now.count over.now.base part)
+        (Stay over.now.count over.now.base parts)) }
 {
     let place = memory.place_of(alloc, &over.base)?;
-    let mut done = Parts::new(alloc);
-    for part in parts {
+    let mut done = Parts::with_capacity(alloc, parts.len())?;
+    for part in parts.into_items() {
         let goes_on = take_part(alloc, memory, place, over, part, &mut done)?;
         if !goes_on {
             return Ok(None);

@@ -60,7 +60,7 @@ fn others(alloc: Global, first: usize, count: usize, xs: &[usize]) -> Result<Lis
 fn atoms_below(alloc: Global, m: usize, atoms: &[Flat]) -> Result<Basic, NoMemory>
     ensures { IfOk result (λ found. found ≡ filter (λ atom. ltb (variable_of atom) m) atoms.now) }
 {
-    let mut found = Basic::new(alloc);
+    let mut found = Basic::with_capacity(alloc, atoms.len())?;
     for atom in atoms {
         if variable(atom) < m {
             found.push(atom.copy(alloc)?)?;

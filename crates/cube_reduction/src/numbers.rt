@@ -5,6 +5,7 @@ ghost use Rattle.flat_form.specs.Parts.{renumbered};
 ghost use Rattle.lists.specs.Distinct.{IsDistinct};
 ghost use Rattle.cube_reduction.specs.Numbers.{number_in, moved_into};
 
+use crate::over::copy_onto;
 use flat_form::{Args, Basic, Flat, Part, Parts};
 use lists::{Copied, List, NoMemory};
 use numbering::numbers_of;
@@ -110,7 +111,11 @@ impl Numbers {
         let Some(inner) = more.checked_add(part.inner) else {
             return Err(NoMemory);
         };
-        let mut basic = moved.copy(alloc)?;
+        let Some(length) = moved.len().checked_add(part.basic.len()) else {
+            return Err(NoMemory);
+        };
+        let mut basic = Basic::with_capacity(alloc, length)?;
+        copy_onto(alloc, &mut basic, moved.as_slice())?;
         self.push_all(alloc, &mut basic, part.basic.as_slice())?;
         Ok(Part { inner, basic })
     }
@@ -143,7 +148,7 @@ impl Numbers {
         if more == 0 && moved.len() == 0 && self.keep_all() {
             return Ok(parts);
         }
-        let mut new = Parts::new(alloc);
+        let mut new = Parts::with_capacity(alloc, parts.len())?;
         for part in parts.as_slice() {
             new.push(self.of_part(alloc, more, moved, part)?)?;
         }

@@ -54,7 +54,11 @@ impl Over {
         let Some(count) = self.count.checked_add(inner) else {
             return Err(NoMemory);
         };
-        let mut all = self.base.copy(alloc)?;
+        let Some(length) = self.base.len().checked_add(atoms.len()) else {
+            return Err(NoMemory);
+        };
+        let mut all = Basic::with_capacity(alloc, length)?;
+        copy_onto(alloc, &mut all, self.base.as_slice())?;
         copy_onto(alloc, &mut all, atoms.as_slice())?;
         added(alloc, count, &self.base, &all)
     }

@@ -28,7 +28,7 @@ fn kept(alloc: Global, m: usize, marks: &[bool], atoms: &[Flat]) -> Result<Basic
     requires { BasicOver (length marks.now) atoms.now }
     ensures { IfOk result (λ kept. kept ≡ filter (is_kept_by m marks.now) atoms.now) }
 {
-    let mut kept = Basic::new(alloc);
+    let mut kept = Basic::with_capacity(alloc, atoms.len())?;
     for atom in atoms {
         if is_kept(m, marks, atom) {
             kept.push(atom.copy(alloc)?)?;

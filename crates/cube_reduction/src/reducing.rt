@@ -36,7 +36,7 @@ fn finished(alloc: Global, memory: &mut Memory, mid: Cube) -> Result<Option<Cube
         count,
         base: mid.basic,
     };
-    match staying(alloc, memory, &over, mid.parts.as_slice())? {
+    match staying(alloc, memory, &over, mid.parts)? {
         Some(parts) => Ok(Some(Cube {
             free: mid.free,
             outer: mid.outer,

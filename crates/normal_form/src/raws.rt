@@ -72,7 +72,7 @@ impl Raise {
     fn part(self, alloc: Global, part: &Part) -> Result<Part, NoMemory>
         ensures { IfOk result (λ new. new ≡ renumbered_part (raised self.first self.by) 0 part.now) }
     {
-        let mut basic = Basic::new(alloc);
+        let mut basic = Basic::with_capacity(alloc, part.basic.len())?;
         self.push_atoms(alloc, &mut basic, part.basic.as_slice())?;
         Ok(Part {
             inner: part.inner,
@@ -106,7 +106,7 @@ pub(crate) fn join(alloc: Global, left: &Cube, right: &Cube) -> Result<Cube, NoM
     let outer = sum(left.outer, right.outer)?;
     let mut basic = left.basic.copy(alloc)?;
     behind_left.push_atoms(alloc, &mut basic, right.basic.as_slice())?;
-    let mut parts = Parts::new(alloc);
+    let mut parts = Parts::with_capacity(alloc, sum(left.parts.len(), right.parts.len())?)?;
     behind_right.push_parts(alloc, &mut parts, left.parts.as_slice())?;
     behind_left.push_parts(alloc, &mut parts, right.parts.as_slice())?;
     Ok(Cube {

@@ -117,7 +117,7 @@ fn list_first(
     ensures { IfOk result (λ list. (order : List ℕ) → AreNumbers first (length numbers.now) order numbers.now
         → IsListedTo first (length numbers.now) order first atoms.now list) }
 {
-    let mut list = Basic::new(alloc);
+    let mut list = Basic::with_capacity(alloc, atoms.len())?;
     for u in 0..first {
         list_at(alloc, numbers, places, atoms, &mut list, u)?;
     }

@@ -19,31 +19,26 @@ staying-requires-clause-base c =
 pub staying-requires-clause-parts : goal.staying-requires-clause-parts
 staying-requires-clause-parts c =
     let mid = c.args.mid in
-    subst (λ (z : List Part). All (PartOver c.in-Some.count) z) (sym c.as_slice.ensures)
-    (subst (λ (z : ℕ). All (PartOver z) mid.parts) (sym c.in-Some.ensures.1) (grouped_is_right c.requires.grouped.0 mid [] c.requires.grouped.1 c.requires.grouped.2).over.parts)
+    subst (λ (z : ℕ). All (PartOver z) mid.parts) (sym c.in-Some.ensures.1) (grouped_is_right c.requires.grouped.0 mid [] c.requires.grouped.1 c.requires.grouped.2).over.parts
 
 pub returns-in-Some-2 : goal.returns-in-Some-2
 returns-in-Some-2 c =
     let mid = c.args.mid in
-    let slice = c.as_slice.result.now in
     let count = c.in-Some.count in
     let parts = c.in-Some-2.parts in
-    let found : Stay count mid.basic slice parts =
-    subst (λ (z : Option (List Part)). MatchOption z ((part : Part) × Contains slice part × IsImplied count mid.basic part) (Stay count mid.basic slice)) c.in-Some-2.is
+    let found : Stay count mid.basic mid.parts parts =
+    subst (λ (z : Option (List Part)). MatchOption z ((part : Part) × Contains mid.parts part × IsImplied count mid.basic part) (Stay count mid.basic mid.parts)) c.in-Some-2.is
     c.in_ok-parts.ensures in
-    let stay : Stay (mid.free + mid.outer) mid.basic mid.parts parts =
-    subst (λ (z : List Part). Stay (mid.free + mid.outer) mid.basic z parts) c.as_slice.ensures (subst (λ (z : ℕ). Stay z mid.basic slice parts) c.in-Some.ensures.1 found) in
+    let stay : Stay (mid.free + mid.outer) mid.basic mid.parts parts = subst (λ (z : ℕ). Stay z mid.basic mid.parts parts) c.in-Some.ensures.1 found in
     let (order, basic, ordered, keeps) = c.requires.stays in
     λ raw grouped. Outcome.cleared mid [] stay.first (record { free = mid.free; outer = mid.outer; basic = mid.basic; parts = parts }) grouped stay.settled stay.some_atom
     (keeps_cleared mid order basic ordered keeps parts stay)
 
-pub returns : goal.returns
-returns c =
+pub returns-in-None : goal.returns-in-None
+returns-in-None c =
     let mid = c.args.mid in
-    let slice = c.as_slice.result.now in
     let count = c.in-Some.count in
-    let found : (part : Part) × Contains slice part × IsImplied count mid.basic part =
-    subst (λ (z : Option (List Part)). MatchOption z ((part : Part) × Contains slice part × IsImplied count mid.basic part) (Stay count mid.basic slice)) c.in-None.is
+    let found : (part : Part) × Contains mid.parts part × IsImplied count mid.basic part =
+    subst (λ (z : Option (List Part)). MatchOption z ((part : Part) × Contains mid.parts part × IsImplied count mid.basic part) (Stay count mid.basic mid.parts)) c.in-None.is
     c.in_ok-parts.ensures in
-    λ raw grouped. Outcome.implied mid [] found.0 grouped (subst (λ (z : List Part). Contains z found.0) c.as_slice.ensures found.1)
-    (subst (λ (z : ℕ). IsImplied z mid.basic found.0) c.in-Some.ensures.1 found.2)
+    λ raw grouped. Outcome.implied mid [] found.0 grouped found.1 (subst (λ (z : ℕ). IsImplied z mid.basic found.0) c.in-Some.ensures.1 found.2)

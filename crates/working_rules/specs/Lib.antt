@@ -1,0 +1,6 @@
+pub mod Codes
+pub mod Forests
+pub mod Slots
+pub mod StandingLaws
+pub mod State
+pub mod TurnedLaws

@@ -1,0 +1,14 @@
+//! Negated conjunctions that are solved branch by branch, in any order.
+#![tactic(auto)]
+
+mod arena;
+mod laws;
+mod planting;
+mod slot;
+
+pub use arena::Arena;
+pub use laws::{standing_laws, turned_laws};
+pub use slot::Slot;
+
+#[cfg(test)]
+mod tests;
