@@ -21,7 +21,8 @@ fn has_term(graph: &Graph, v: usize) -> bool
     }
 }
 
-// The one that goes, and the one that stays: a class without a term goes under one with a term, else the smaller class.
+// The one that goes, and the one that stays: a class without a term goes under one with a term, else the lighter
+// one under the heavier.
 fn choose(graph: &Graph, a: usize, b: usize) -> (usize, usize)
     requires a_in { a < length graph.now.contents.bindings }
     requires b_in { b < length graph.now.contents.bindings }
@@ -30,7 +31,13 @@ fn choose(graph: &Graph, a: usize, b: usize) -> (usize, usize)
     match (has_term(graph, a), has_term(graph, b)) {
         (true, false) => (b, a),
         (false, true) => (a, b),
-        _ => { if a < b { (b, a) } else { (a, b) } }
+        _ => {
+            if graph.weight(a) < graph.weight(b) {
+                (a, b)
+            } else {
+                (b, a)
+            }
+        }
     }
 }
 
