@@ -1,7 +1,7 @@
 -- What each change does to names, bindings and marks.
-use Rattle.std.proofs.Common.{ℕ, ◌≡◌, ◌≢◌, ◌<◌, ◌≤◌, Bool, true, false, List, [], ◌∷◌, ◌++◌, length, set, get_or, refl, sym, ap, ◌∙◌, subst, arith, inl, inr, ◌⊎◌, length-set, get_or-set_same, get_or-set_other, length-append}
-use Rattle.std.specs.Prelude.{Contains, slice_index, slice_index_or, slice_set, Some, None, cond, nat_eq, ◌↔◌}
-use Rattle.std.proofs.lemmas.Bool.{cases_eq, cases_lt, ne_eqb}
+use Rattle.std.proofs.Common.{ℕ, ◌≡◌, ◌≢◌, ◌<◌, ◌≤◌, Bool, true, false, List, [], ◌∷◌, ◌++◌, length, get_or, refl, sym, ap, ◌∙◌, subst, arith, inl, inr, length-set, get_or-set_same, get_or-set_other}
+use Rattle.std.specs.Prelude.{Contains, slice_index, slice_index_or, slice_set, None, ◌↔◌}
+use Rattle.std.proofs.lemmas.Bool.{cases_eq, cases_lt}
 use Rattle.std.proofs.lemmas.List.{get_or_past, get_or_append_left, get_or_push, length_push}
 use Rattle.std.proofs.lemmas.List.Elements.{Contains-get_or}
 use Rattle.tree_facts.proofs.Members.{contains_first, contains_later, contains_cases}
@@ -12,7 +12,7 @@ use Rattle.term_graph.specs.Contents.{Contents, binding_of, target, target_of, r
 use Rattle.term_graph.proofs.Forests.{root-joined, root-kept, root_of_root, forest_bound, leads_to_root, leads_root, forest_by}
 use Rattle.settled_facts.specs.Settled.{name, IsFree, IsMarked, IsShaped}
 use Rattle.settled_facts.proofs.Terms.{name_twice}
-use Rattle.settled_facts.specs.Changes.{IsJoin, IsTerming, IsMarking, IsInterning, IsChange, joined, termed, marked, interned, IsLater, IsUnchanged, JoinRenames, ChangeKeepsShape, ChangeIsLater, LaterIsTransitive, UntouchedIsUnchanged, UnchangedIsTransitive, TouchedWasRoot}
+use Rattle.settled_facts.specs.Changes.{IsJoin, IsTerming, IsChange, joined, termed, marked, interned, IsLater, IsUnchanged, JoinRenames, ChangeKeepsShape, ChangeIsLater, LaterIsTransitive, UntouchedIsUnchanged, UnchangedIsTransitive, TouchedWasRoot}
 
 -- a mark that is set leaves the others
 pub set_stays : (marks : List Bool) (v r : ℕ) → slice_index_or marks r false ≡ true → slice_index_or (slice_set marks v true) r false ≡ true

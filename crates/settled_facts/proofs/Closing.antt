@@ -1,15 +1,14 @@
 -- The names of settled contents are the classes.
-use Rattle.std.proofs.Common.{ℕ, ◌≡◌, ◌<◌, List, map, length, refl, sym, ap, ◌∙◌, subst, arith}
+use Rattle.std.proofs.Common.{ℕ, ◌≡◌, List, map, sym, ap, ◌∙◌, subst, arith}
 use Rattle.std.specs.Prelude.{slice_index, Contains}
 use Rattle.std.proofs.lemmas.List.{length-map}
 use Rattle.tree_model.specs.declared.tree.Symbol.{Symbol}
 use Rattle.flat_form.specs.declared.atom.Flat.{Flat}
 use Rattle.flat_form.specs.declared.atom.Flat.TheVariants.{VarVar, VarTerm}
-use Rattle.flat_form.specs.Classes.{Class}
 use Rattle.flat_facts.specs.Names.{IsClosed}
 use Rattle.flat_facts.proofs.Names.{names_classes}
 use Rattle.term_graph.specs.Contents.{Contents}
-use Rattle.settled_facts.specs.Settled.{name, IsShaped, HasTermIn, IsSettled}
+use Rattle.settled_facts.specs.Settled.{name, HasTermIn}
 use Rattle.settled_facts.specs.Forms.{SettledIsClosed, SettledNamesAreClasses}
 use Rattle.settled_facts.proofs.Terms.{one_term, named_at, named_same}
 

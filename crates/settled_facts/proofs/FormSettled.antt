@@ -1,13 +1,13 @@
 -- Contents settle what is read off them.
-use Rattle.std.proofs.Common.{ℕ, ◌≡◌, ◌<◌, List, map, length, refl, sym, ap, ◌∙◌, subst, arith, inl, inr, ◌⊎◌}
-use Rattle.std.specs.Prelude.{slice_index, Contains}
+use Rattle.std.proofs.Common.{ℕ, ◌≡◌, ◌<◌, List, map, length, sym, ◌∙◌, subst, arith, inl, inr}
+use Rattle.std.specs.Prelude.{Contains}
 use Rattle.std.proofs.lemmas.Bool.{cases_eq}
 use Rattle.tree_model.specs.declared.tree.Symbol.{Symbol}
 use Rattle.flat_form.specs.declared.atom.Flat.{Flat}
 use Rattle.flat_form.specs.declared.atom.Flat.TheVariants.{VarVar, VarTerm, Finite}
 use Rattle.flat_form.specs.Classes.{Class, itself, stated, turned, joined, Reached, marked, child}
 use Rattle.term_graph.specs.Contents.{Contents}
-use Rattle.settled_facts.specs.Settled.{name, IsFree, IsMarked, IsShaped, HasTermIn, Firm, leaf, Follows, IsSettled}
+use Rattle.settled_facts.specs.Settled.{name, IsFree, IsMarked, IsShaped, HasTermIn, leaf, Follows, IsSettled}
 use Rattle.settled_facts.specs.Forms.{IsLeast, AreLeast, IsReadOff, FormSettles}
 use Rattle.flat_facts.specs.Names.{IsClosed}
 use Rattle.flat_facts.proofs.Names.{class_named}

@@ -6,14 +6,14 @@ use Rattle.std.proofs.lemmas.Bool.{cases_eq}
 use Rattle.tree_model.specs.declared.tree.Symbol.{Symbol}
 use Rattle.flat_form.specs.declared.atom.Flat.{Flat}
 use Rattle.flat_form.specs.declared.atom.Flat.TheVariants.{VarVar, VarTerm, Finite}
-use Rattle.flat_form.specs.Classes.{Class, itself, turned, joined, Reached}
+use Rattle.flat_form.specs.Classes.{Class, Reached}
 use Rattle.flat_form.specs.Added.{IsHead, by_term, by_root, Adds}
 use Rattle.flat_facts.proofs.Shapes.{all_open}
 use Rattle.flat_facts.proofs.Heads.{reached_class}
 use Rattle.term_graph.specs.Contents.{Contents}
-use Rattle.settled_facts.specs.Settled.{name, IsFree, IsMarked, IsShaped, HasTermIn, IsSettled}
-use Rattle.settled_facts.specs.Forms.{IsLeast, AreLeast, Says, IsReadOff, SettledHasForm}
-use Rattle.settled_facts.proofs.Terms.{one_term, named_at, named_same, kind_of, Kind, free, applied, free_no_term, firm_marked, named_class, name_argument, name_twice}
+use Rattle.settled_facts.specs.Settled.{name, IsShaped, HasTermIn, IsSettled}
+use Rattle.settled_facts.specs.Forms.{IsLeast, AreLeast, Says}
+use Rattle.settled_facts.proofs.Terms.{named_at, kind_of, Kind, free, applied, free_no_term, firm_marked, name_twice}
 use Rattle.settled_facts.proofs.Closing.{settled_classes}
 
 nothing : (a : Flat) → ¬ Contains [] a

@@ -1,12 +1,10 @@
 -- Free variables stay exactly where no change takes one.
-use Rattle.std.proofs.Common.{ℕ, ◌≡◌, ◌≢◌, List, refl, sym, ap, ◌∙◌, subst, arith, inl, inr, get_or-set_same}
-use Rattle.std.specs.Prelude.{slice_index_or, false, true, None, ◌↔◌}
-use Rattle.std.proofs.lemmas.Bool.{cases_eq}
-use Rattle.term_graph.specs.declared.bound.Bound.TheVariants.{Free}
-use Rattle.term_graph.specs.Contents.{Contents, binding_of, target, target_of}
+use Rattle.std.proofs.Common.{ℕ, ◌≡◌, List, sym, ap, ◌∙◌, subst, arith, get_or-set_same}
+use Rattle.std.specs.Prelude.{slice_index_or, false, true}
+use Rattle.term_graph.specs.Contents.{Contents, binding_of, target}
 use Rattle.term_graph.proofs.Forests.{root_of_root}
 use Rattle.settled_facts.specs.Settled.{name, IsFree, IsMarked, IsShaped}
-use Rattle.settled_facts.specs.Changes.{IsJoin, IsTerming, IsMarking, IsChange, joined, termed, marked, interned, IsLater, FreeStay, TakesFree, by_join, by_term, by_mark, FreeStayUnlessTaken}
+use Rattle.settled_facts.specs.Changes.{IsChange, joined, termed, marked, interned, IsLater, FreeStay, TakesFree, by_join, by_term, by_mark, FreeStayUnlessTaken}
 use Rattle.settled_facts.proofs.Terms.{name_free}
 use Rattle.settled_facts.proofs.Changing.{join_other, join_bound, term_bound, change_later}
 

@@ -1,20 +1,19 @@
 -- What is said more is what is added.
-use Rattle.std.proofs.Common.{ℕ, ◌≡◌, ◌<◌, ◌≤◌, List, [], ◌++◌, map, length, refl, sym, ap, ◌∙◌, subst, arith, inl, inr, ◌⊎◌}
-use Rattle.std.specs.Prelude.{slice_index, Contains, ◌↔◌, None}
+use Rattle.std.proofs.Common.{ℕ, ◌≡◌, ◌<◌, List, [], ◌++◌, map, length, sym, ap, ◌∙◌, subst, arith, inl, inr}
+use Rattle.std.specs.Prelude.{slice_index, Contains, ◌↔◌}
 use Rattle.std.proofs.lemmas.List.{length-map}
-use Rattle.std.proofs.lemmas.List.Elements.{Contains-append_left}
 use Rattle.std.proofs.lemmas.Bool.{cases_eq}
 use Rattle.tree_model.specs.declared.tree.Symbol.{Symbol}
 use Rattle.flat_form.specs.declared.atom.Flat.{Flat}
 use Rattle.flat_form.specs.declared.atom.Flat.TheVariants.{VarVar, VarTerm, Finite}
-use Rattle.flat_form.specs.Classes.{Class, Reached}
+use Rattle.flat_form.specs.Classes.{Class}
 use Rattle.flat_form.specs.Solved.{IsOpen, HasTerm}
 use Rattle.flat_form.specs.Added.{IsHead, by_term as head_term, by_root, Adds}
 use Rattle.flat_facts.proofs.Heads.{reached_class}
 use Rattle.term_graph.specs.Contents.{Contents}
-use Rattle.settled_facts.specs.Settled.{name, IsFree, IsMarked, IsShaped, HasTermIn, IsSettled}
-use Rattle.settled_facts.specs.Forms.{IsLeast, AreLeast, IsReadOff}
-use Rattle.settled_facts.specs.Additions.{WasFree, HadTerm, IsHeadNow, by_term, by_free, AreHeads, SaysMore, MoreIsAdded}
+use Rattle.settled_facts.specs.Settled.{name, IsFree, IsShaped, HasTermIn, IsSettled}
+use Rattle.settled_facts.specs.Forms.{IsLeast, IsReadOff}
+use Rattle.settled_facts.specs.Additions.{WasFree, HadTerm, IsHeadNow, by_term, by_free, SaysMore, MoreIsAdded}
 use Rattle.settled_facts.proofs.Terms.{named_at, kind_of, Kind, free, applied, free_no_term, firm_marked, name_twice}
 use Rattle.settled_facts.proofs.Forms.{least_of, least_all, one_least, classes}
 use Rattle.settled_facts.proofs.Solvable.{settled_solvable}

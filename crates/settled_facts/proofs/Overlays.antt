@@ -1,20 +1,19 @@
 -- What an overlay shows, and heads among touched roots.
-use Rattle.std.proofs.Common.{ℕ, ◌≡◌, ◌≢◌, ◌<◌, ◌≤◌, Bool, true, false, List, [], ◌∷◌, map, length, refl, sym, ap, ◌∙◌, subst, arith, inl, inr, ◌⊎◌, get_or-set_same, get_or-set_other}
-use Rattle.std.specs.Prelude.{slice_index_or, Contains, ◌↔◌, Some, None}
+use Rattle.std.proofs.Common.{ℕ, ◌≡◌, ◌≤◌, Bool, true, false, List, [], ◌∷◌, map, refl, sym, ap, ◌∙◌, subst, arith, inl, inr, ◌⊎◌}
+use Rattle.std.specs.Prelude.{slice_index_or, Contains, None}
 use Rattle.std.proofs.lemmas.Bool.{cases_eq}
 use Rattle.tree_facts.proofs.Members.{contains_first, contains_later, contains_cases}
-use Rattle.term_graph.specs.declared.bound.Bound.{Bound}
-use Rattle.term_graph.specs.declared.bound.Bound.TheVariants.{Free, Variable, Term}
+use Rattle.term_graph.specs.declared.bound.Bound.TheVariants.{Term}
 use Rattle.term_graph.specs.Contents.{Contents, binding_of, target, target_of, root, term_at}
 use Rattle.term_graph.proofs.Forests.{root_of_root}
-use Rattle.settled_facts.specs.Settled.{name, IsFree, IsMarked, IsShaped, HasTermIn}
+use Rattle.settled_facts.specs.Settled.{name, IsFree, IsShaped}
 use Rattle.settled_facts.specs.Forms.{IsLeast}
-use Rattle.settled_facts.specs.Changes.{IsJoin, IsTerming, IsMarking, IsChange, IsUnchanged}
+use Rattle.settled_facts.specs.Changes.{IsUnchanged}
 use Rattle.settled_facts.specs.Additions.{WasFree, HadTerm, IsHeadNow, by_term, by_free}
 use Rattle.settled_facts.specs.Overlays.{Earlier, IsAt, Shows, HadOne, IsTouched, IsHeadAmong, by_term as among_terms, by_free as among_free, OverlayReads, TermTakenBack, MarkTakenBack, JoinTakenBack, HeadIsAmongTouched}
 use Rattle.settled_facts.proofs.Terms.{kind_of, Kind, free, applied}
 use Rattle.settled_facts.proofs.Forms.{least_moves}
-use Rattle.settled_facts.proofs.Changing.{untouched_unchanged, term_targets, term_names, term_other, join_other, join_root}
+use Rattle.settled_facts.proofs.Changing.{untouched_unchanged, term_targets, term_names, join_other}
 
 pub listed_or_not : (xs : List ℕ) (x : ℕ) → Contains xs x ⊎ (¬ Contains xs x)
 listed_or_not [] x = inr (λ i. omega (arith, i.1))

@@ -1,5 +1,5 @@
 -- The list that is read off, and that it speaks of variables that there are.
-use Rattle.std.proofs.Common.{ℕ, ◌≡◌, ◌<◌, ◌≤◌, Bool, true, false, List, length, get_or, refl, sym, ap, ◌∙◌, subst, arith, inl, inr, ◌⊎◌}
+use Rattle.std.proofs.Common.{ℕ, ◌≡◌, ◌<◌, ◌≤◌, false, length, sym, ◌∙◌, subst, arith, inl, inr}
 use Rattle.std.specs.Prelude.{slice_index_or}
 use Rattle.std.proofs.lemmas.List.{get_or_past}
 use Rattle.std.proofs.lemmas.Bool.{cases_lt}
@@ -7,7 +7,7 @@ use Rattle.flat_form.specs.declared.atom.Flat.{Flat}
 use Rattle.flat_form.specs.declared.atom.Flat.TheVariants.{VarVar, VarTerm, Finite}
 use Rattle.flat_form.specs.Solved.{variable_of}
 use Rattle.term_graph.specs.declared.bound.Bound.TheVariants.{Free}
-use Rattle.term_graph.specs.Contents.{Contents, binding_of, root}
+use Rattle.term_graph.specs.Contents.{Contents}
 use Rattle.term_graph.proofs.Forests.{root-within, leads_to_root}
 use Rattle.settled_facts.specs.Settled.{name, IsFree, IsShaped}
 use Rattle.settled_facts.specs.Forms.{Says, SaysInRange, SettledHasForm}

@@ -1,6 +1,6 @@
 -- Of the variables of an unchanged root nothing is said more; nothing at all where the free ones stay.
-use Rattle.std.proofs.Common.{ℕ, ◌≡◌, ◌<◌, ◌≤◌, Bool, true, false, List, [], ◌∷◌, map, length, refl, sym, ap, ◌∙◌, subst, arith, inl, inr, ◌⊎◌}
-use Rattle.std.specs.Prelude.{slice_index, slice_index_or, Contains, ◌↔◌, Some, None}
+use Rattle.std.proofs.Common.{ℕ, ◌≡◌, Bool, true, false, List, [], ◌∷◌, map, refl, sym, ap, ◌∙◌, subst, arith, inl, inr}
+use Rattle.std.specs.Prelude.{slice_index_or, Contains, Some, None}
 use Rattle.std.proofs.lemmas.Bool.{cases_eq}
 use Rattle.classical.specs.Classical.{Exists}
 use Rattle.classical.proofs.Stable.{◌>>=◌, either_way}
@@ -17,7 +17,7 @@ use Rattle.term_graph.proofs.Forests.{root_of_root}
 use Rattle.settled_facts.specs.Settled.{name, IsFree, IsMarked, IsShaped, HasTermIn}
 use Rattle.settled_facts.specs.Forms.{IsLeast}
 use Rattle.settled_facts.specs.Changes.{IsLater, IsUnchanged, FreeStay}
-use Rattle.settled_facts.specs.Additions.{WasFree, HadTerm, IsHeadNow, by_term, by_free, SaysMore, IsSaidMore, UnchangedSaysNoMore, UnchangedHeadIsLeast, NothingMoreWhereFreeStay}
+use Rattle.settled_facts.specs.Additions.{WasFree, HadTerm, IsHeadNow, by_term, by_free, SaysMore, UnchangedSaysNoMore, UnchangedHeadIsLeast, NothingMoreWhereFreeStay}
 use Rattle.settled_facts.proofs.Terms.{kind_of, Kind, free, applied, free_no_term, name_free, name_bound, name_twice}
 use Rattle.settled_facts.proofs.Forms.{least_of, least_moves, one_least}
 use Rattle.settled_facts.proofs.More.{head_moves}

@@ -4,3 +4,4 @@ pub mod Ends
 pub mod Forms
 pub mod Overlays
 pub mod Settled
+pub mod Variables

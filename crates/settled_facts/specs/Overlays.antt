@@ -1,12 +1,12 @@
 -- What was there before, kept beside the present contents, and read off it.
-use Rattle.std.specs.Prelude.{◌≡◌, ℕ, ◌≤◌, Bool, true, false, List, slice_index_or, Contains, ◌↔◌, None}
+use Rattle.std.specs.Prelude.{◌≡◌, ℕ, ◌≤◌, Bool, false, List, slice_index_or, Contains, None}
 use Rattle.term_graph.specs.declared.bound.Bound.{Bound}
 use Rattle.term_graph.specs.declared.bound.Bound.TheVariants.{Free, Term}
 use Rattle.term_graph.specs.Contents.{Contents, binding_of, target_of}
-use Rattle.settled_facts.specs.Settled.{name, IsFree, IsMarked, IsShaped}
+use Rattle.settled_facts.specs.Settled.{name, IsShaped}
 use Rattle.settled_facts.specs.Forms.{IsLeast}
 use Rattle.settled_facts.specs.Changes.{IsJoin, IsTerming, IsMarking, IsChange, IsUnchanged}
-use Rattle.settled_facts.specs.Additions.{WasFree, HadTerm, IsHeadNow}
+use Rattle.settled_facts.specs.Additions.{IsHeadNow}
 
 -- what a variable was bound to, whether it was marked, and the least variable with its name
 pub record Earlier : Type 0 where

@@ -1,5 +1,5 @@
 -- Contents whose names are the classes of a conjunction.
-use Rattle.std.specs.Prelude.{◌≡◌, ℕ, ◌<◌, Bool, true, false, List, ◌++◌, length, map, slice_index, slice_index_or, Contains}
+use Rattle.std.specs.Prelude.{◌≡◌, ℕ, ◌<◌, true, false, List, ◌++◌, length, map, slice_index, slice_index_or, Contains}
 use Rattle.tree_model.specs.declared.tree.Symbol.{Symbol}
 use Rattle.flat_form.specs.declared.atom.Flat.{Flat}
 use Rattle.flat_form.specs.declared.atom.Flat.TheVariants.{VarVar, VarTerm}

@@ -3,6 +3,7 @@ ghost use Rattle.settled_facts.specs.Additions.{MoreIsAdded, NothingMoreWhereFre
 ghost use Rattle.settled_facts.specs.Changes.{JoinRenames, ChangeKeepsShape, ChangeIsLater, LaterIsTransitive, UntouchedIsUnchanged, UnchangedIsTransitive, TouchedWasRoot, FreeStayUnlessTaken};
 ghost use Rattle.settled_facts.specs.Ends.{EndsHasNoRound, MarkedLeavesMakeFirm, LeavesAreReached};
 ghost use Rattle.settled_facts.specs.Forms.{SettledIsClosed, SettledNamesAreClasses, SettledHasForm, EquationsAreThere, SaysInRange, SettledIsSolvable, ClashIsUnsolvable, LoopIsUnsolvable, FormSettles};
+ghost use Rattle.settled_facts.specs.Variables.{VariableKeepsSettled, NothingIsSettled};
 ghost use Rattle.settled_facts.specs.Overlays.{OverlayReads, TermTakenBack, MarkTakenBack, JoinTakenBack, HeadIsAmongTouched};
 
 /// What settled contents say is the solved form of their atoms, which can be solved.
@@ -52,4 +53,10 @@ pub fn walk_laws()
     ensures firm { MarkedLeavesMakeFirm }
     ensures leaves { LeavesAreReached }
     ensures equations { EquationsAreThere }
+{}
+
+/// Contents without atoms, and with a variable more.
+pub fn variable_laws()
+    ensures none { NothingIsSettled }
+    ensures more { VariableKeepsSettled }
 {}

@@ -4,7 +4,7 @@
 
 mod laws;
 
-pub use laws::{change_laws, form_laws, more_laws, overlay_laws, walk_laws};
+pub use laws::{change_laws, form_laws, more_laws, overlay_laws, variable_laws, walk_laws};
 
 #[cfg(test)]
 mod tests;

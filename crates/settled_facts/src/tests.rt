@@ -7,5 +7,6 @@ fn laws_can_be_called(_rt: HostRuntime) {
     form_laws();
     more_laws();
     overlay_laws();
+    variable_laws();
     walk_laws();
 }
