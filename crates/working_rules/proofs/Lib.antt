@@ -3,6 +3,7 @@ pub mod Listing
 pub mod Parts
 pub mod Planted
 pub mod Readiness
+pub mod Rounds
 pub mod Slots
 pub mod Standing
 pub mod Turned

@@ -4,6 +4,7 @@
 mod arena;
 mod laws;
 mod planting;
+mod round;
 mod slot;
 
 pub use arena::Arena;
