@@ -1,5 +1,6 @@
 pub mod Codes
 pub mod Forests
+pub mod Joining
 pub mod Rounds
 pub mod Slots
 pub mod StandingLaws

@@ -2,6 +2,7 @@
 #![tactic(auto)]
 
 mod arena;
+mod joining;
 mod laws;
 mod planting;
 mod round;
