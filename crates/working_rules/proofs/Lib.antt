@@ -8,3 +8,4 @@ pub mod Rounds
 pub mod Slots
 pub mod Standing
 pub mod Turned
+pub mod Worked

@@ -7,6 +7,7 @@ mod laws;
 mod planting;
 mod round;
 mod slot;
+mod turning;
 
 pub use arena::Arena;
 pub use laws::{standing_laws, turned_laws};
