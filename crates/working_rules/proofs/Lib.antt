@@ -1,5 +1,6 @@
 pub mod Forests
 pub mod Listing
+pub mod MachineFacts
 pub mod PartLists
 pub mod Parts
 pub mod Planted

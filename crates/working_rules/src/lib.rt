@@ -4,6 +4,7 @@
 mod arena;
 mod joining;
 mod laws;
+mod machine;
 mod planting;
 mod round;
 mod slot;
@@ -11,6 +12,7 @@ mod turning;
 
 pub use arena::Arena;
 pub use laws::{standing_laws, turned_laws};
+pub use machine::Machine;
 pub use slot::Slot;
 
 #[cfg(test)]
