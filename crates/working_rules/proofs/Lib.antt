@@ -1,8 +1,12 @@
 pub mod Forests
 pub mod Listing
+pub mod MachineFacts
+pub mod PartLists
 pub mod Parts
 pub mod Planted
 pub mod Readiness
+pub mod Rounds
 pub mod Slots
 pub mod Standing
 pub mod Turned
+pub mod Worked

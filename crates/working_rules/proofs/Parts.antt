@@ -53,7 +53,7 @@ parts_more root end at next_at part more from is_next =
       upto = omega (arith, behind, upto);
     }
 
-size_positive : (x : Branch) → 0 < size x
+pub size_positive : (x : Branch) → 0 < size x
 size_positive (branch bound basic parts list) = omega arith
 
 -- at the end there is none

@@ -25,17 +25,21 @@ ready_waits (branch bound basic parts list) ready = elim (cases_Bool (is_waiting
   | inr done ↦ absurd (both_ways (is_ready (branch bound basic parts list)) (and_left (is_waiting (branch bound basic parts list)) (none_waits parts) done) ready)
 ]
 
+-- the branch at the place that is picked is ready
+pub picked_ready : (free : ℕ) (root : Branch) (pick place : ℕ) → slice_get (ready_places 0 root) pick ≡ Some place → is_ready (branch_at place root) ≡ true
+picked_ready free root pick place picked =
+    let found = (ready_are_there free [] root 0 place).0 (got_in (ready_places 0 root) pick place picked) in
+    let same : place ≡ found.0 = omega (arith, found.1) in
+    let one : branch_at place root ≡ found.2.here =
+    ap (λ (j : ℕ). branch_at j root) same ∙ stands_at free found.0 found.2.variables [] found.2.under root found.2.here found.2.stands
+    in
+    subst (λ (z : Branch). is_ready z ≡ true) (sym one) found.2.ready
+
 -- the branch that is picked waits
 here_waits : (old new : State) (pick : ℕ) (t : Turned old pick new) → is_waiting t.here ≡ true
 here_waits old new pick t =
-    let found = (ready_are_there old.free [] old.root 0 t.place).0 (got_in (ready_places 0 old.root) pick t.place t.picked) in
-    let same : t.place ≡ found.0 = omega (arith, found.1) in
-    let one : t.here ≡ found.2.here =
-    sym (stands_at old.free t.place t.variables [] t.under old.root t.here t.stands)
-    ∙ ap (λ (j : ℕ). branch_at j old.root) same
-    ∙ stands_at old.free found.0 found.2.variables [] found.2.under old.root found.2.here found.2.stands
-    in
-    ready_waits t.here (subst (λ (z : Branch). is_ready z ≡ true) (sym one) found.2.ready)
+    let stands : branch_at t.place old.root ≡ t.here = stands_at old.free t.place t.variables [] t.under old.root t.here t.stands in
+    ready_waits t.here (subst (λ (z : Branch). is_ready z ≡ true) stands (picked_ready old.free old.root pick t.place t.picked))
 
 turned_norm : (old new : State) (pick : ℕ) → Turned old pick new → norm_in new.root ≡ norm_in old.root
 turned_norm old new pick t =

@@ -1,10 +1,13 @@
 -- How the logic stores a tree of branches: by its slots, which give it back. No clause reads these words.
 use Rattle.std.proofs.Common.{ℕ, ◌≡◌, ◌+◌, List, [], ◌++◌, refl, sym, ap, ◌∙◌, append-nil, append_assoc}
-use Rattle.std.specs.Coded.{Coded, code_by, coded_list}
+use Rattle.std.specs.Coded.{Coded, code_by, coded_list, coded_ℕ, coded×}
+use Rattle.basic_solver.specs.contracts.scope.Scope as stored_scope
+use Rattle.basic_solver.specs.declared.scope.Scope.{Scope}
 use Rattle.node_facts.specs.Branches.{Branch, Branches, branch, no_branch, one_more, size}
 use Rattle.working_rules.specs.contracts.slot.Slot as stored
 use Rattle.working_rules.specs.declared.slot.Slot.{Slot}
 use Rattle.working_rules.specs.Forests.{count, joined, first_of}
+use Rattle.working_rules.specs.State.{State}
 use Rattle.working_rules.specs.Slots.{slots_of, all_slots_of, front, behind, grown, root_in}
 
 pub front_joined : (xs ys : Branches) → front (count xs) (joined xs ys) ≡ xs
@@ -36,3 +39,10 @@ root_back x =
 
 abbrev pub branch_code : Coded Branch
 branch_code = code_by (List Slot) (coded_list stored.the_row.coded) (slots_of 0) root_in root_back
+
+-- how it stores a state
+abbrev pub state_code : Coded State
+state_code =
+    code_by (ℕ × (Branch × (List Scope × ℕ))) (coded× coded_ℕ (coded× branch_code (coded× (coded_list stored_scope.the_row.coded) coded_ℕ)))
+    (λ state. (state.free, (state.root, (state.store.scopes, state.turns))))
+    (λ parts. record { free = parts.0; root = parts.1.0; store = record { scopes = parts.1.1.0 }; turns = parts.1.1.1 }) (λ state. refl)

@@ -1,5 +1,8 @@
 pub mod Codes
 pub mod Forests
+pub mod Joining
+pub mod Machines
+pub mod Rounds
 pub mod Slots
 pub mod StandingLaws
 pub mod State
