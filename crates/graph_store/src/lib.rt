@@ -1,0 +1,6 @@
+//! What a graph says of its variables: a conjunction of flat atoms.
+#![tactic(auto)]
+
+mod reading;
+
+pub use reading::read_off;
