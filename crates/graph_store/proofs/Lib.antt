@@ -1,3 +1,5 @@
 pub mod Growth
+pub mod Listing
 pub mod Popping
 pub mod Pushing
+pub mod Saying

@@ -36,8 +36,8 @@ popped h owners scopes all floors floor (above g mine under scope below last lev
     let same = same_front below floors last floor e in (
       subst (λ z. z.mark.length ≤ length h.trail) same.1 low,
       subst (λ zs. AreLevels (back_to floor.mark.length h) (take floor.owners owners) zs floors) (sym (front under scope))
-      (subst (λ fs. AreLevels (back_to floor.mark.length h) (take floor.owners owners) under fs) same.0
-      (subst (λ z. AreLevels (back_to z.mark.length h) (take z.owners owners) under below) same.1 levels)),
+          (subst (λ fs. AreLevels (back_to floor.mark.length h) (take floor.owners owners) under fs) same.0
+          (subst (λ z. AreLevels (back_to z.mark.length h) (take z.owners owners) under below) same.1 levels)),
     )
 
 -- where no floor is left there is one scope

@@ -1,10 +1,12 @@
 //! The store: atoms in scopes, over one graph.
 ghost use Rattle.std.specs.Prelude.{◌≡◌, ◌<◌, [], ◌∷◌, ◌++◌, length, IfOk, OnOk, OnErr};
-ghost use Rattle.basic_solver.specs.Stores.{below, open_in};
+ghost use Rattle.flat_form.specs.Added.{IsSolvedForm};
+ghost use Rattle.basic_solver.specs.Stores.{atoms_of, below, open_in};
 ghost use Rattle.graph_store.specs.Levels.{AreLevels};
 
 use crate::floor::Floor;
 use crate::growing::grow;
+use crate::reading::read_off;
 use basic_solver::Scope;
 use flat_form::Basic;
 use lists::NoMemory;
@@ -85,6 +87,15 @@ impl Store {
         ensures { result ≡ open_in self.now.scopes }
     {
         self.graph.variables()
+    }
+
+    /// The solved form of all atoms.
+    pub fn basic(&self, alloc: Global) -> Result<Basic, NoMemory>
+        ensures { IfOk result (IsSolvedForm (atoms_of self.now.scopes)) }
+    {
+        self.graph.well_formed();
+        let form = read_off(alloc, &self.graph)?;
+        Ok(form)
     }
 
     /// Gives up the top scope. It takes no memory.
