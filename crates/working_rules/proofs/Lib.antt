@@ -1,6 +1,7 @@
 pub mod Forests
 pub mod Listing
 pub mod MachineFacts
+pub mod Nests
 pub mod PartLists
 pub mod Parts
 pub mod Planted
