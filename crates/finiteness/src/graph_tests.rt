@@ -180,3 +180,31 @@ fn a_high_tower_of_shared_terms_is_walked_once(rt: HostRuntime) -> Result<(), Fa
     assert!(rt; graph.finite(2000) && !graph.finite(1999));
     Ok(())
 }
+
+// A term over eight variables.
+fn fan(alloc: Global) -> Result<Graph, NoMemory> {
+    let mut graph = variables(alloc, 9)?;
+    give(&mut graph, 0, Symbol::Named(0), &[1, 2, 3, 4, 5, 6, 7, 8])?;
+    Ok(graph)
+}
+
+// Tried with each allocation failing in turn: then the marks that were set are taken back.
+#[test]
+fn all_leaves_are_marked_or_none(rt: HostRuntime) -> Result<(), Fail> {
+    let Ok(mut graph) = fan(rt.alloc()) else {
+        return Ok(());
+    };
+    if graph.variables() != 9 {
+        return Err(Fail::from("nine variables"));
+    }
+    match spread(rt.alloc(), &mut graph, 0) {
+        Ok(Outcome::Done) => {
+            assert!(rt; are_marks(&graph, b"", b"12345678"));
+        }
+        Ok(Outcome::Loop(_)) => return Err(Fail::from("no walk comes round")),
+        Err(NoMemory) => {
+            assert!(rt; are_marks(&graph, b"", b""));
+        }
+    }
+    Ok(())
+}
