@@ -4,3 +4,6 @@
 mod reading;
 
 pub use reading::read_off;
+
+#[cfg(test)]
+mod tests;
