@@ -9,16 +9,12 @@ use Rattle.flat_form.specs.declared.atom.Flat.TheVariants.{VarVar, VarTerm, Fini
 use Rattle.flat_form.specs.Solved.{variable_of}
 use Rattle.term_graph.specs.declared.bound.Bound.TheVariants.{Term}
 use Rattle.term_graph.specs.Contents.{Contents, binding_of, term_at}
-use Rattle.term_graph.specs.Contents.{IsLeast as IsLeastIn}
 use Rattle.settled_facts.specs.Settled.{name, IsFree, IsMarked, IsShaped, HasTermIn}
 use Rattle.settled_facts.specs.Forms.{IsLeast, AreLeast, Says, IsReadOff}
 use Rattle.settled_facts.proofs.Terms.{name_twice, named_at, one_term, free_no_term}
 use Rattle.settled_facts.proofs.Forms.{one_least, least_moves}
 use Rattle.settled_facts.proofs.ReadOff.{says_range}
 use Rattle.graph_store.specs.Lines.{IsTheOne, AreThose}
-
-pub least_told : (c : Contents) (v l : ℕ) → IsLeastIn c v l → IsLeast c v l
-least_told c v l m = record { same = m.same; least = m.least }
 
 -- the least ones of variables are those of their names
 pub least_named : (c : Contents) → IsShaped c → (xs ys : List ℕ) → AreLeast c xs ys → AreLeast c (map (name c) xs) ys
@@ -36,19 +32,6 @@ one_list c xs ys zs a b = same_number_lists ys zs (a.as_many ∙ sym b.as_many)
     (λ i w. (let l : i < length xs = omega (arith, w, a.as_many) in one_least c (slice_index xs i) (slice_index ys i) (slice_index zs i) (a.each i l) (b.each i l)))
 
 module _ (c : Contents) (v : ℕ) where
-  -- it equals another variable, the least one
-  module _ (l : ℕ) (m : IsLeast c v l) (d : ¬ (l ≡ v)) where
-    not_own : (u : ℕ) → u ≡ v → ¬ IsLeast c u u
-    not_own u e n = d (one_least c v l v m (subst (λ (z : ℕ). IsLeast c z z) e n))
-
-    only_equal : (other : Flat) → variable_of other ≡ v → Says c other → other ≡ VarVar v l
-    only_equal (VarVar u k) e (n, f) = (let same : k ≡ l = one_least c v k l (subst (λ (z : ℕ). IsLeast c z k) e n) m in cc)
-    only_equal (VarTerm u s ys) e (n, keys, has, are) = absurd (not_own u e n)
-    only_equal (Finite u) e (n, free, mark) = absurd (not_own u e n)
-
-    pub says_equal : IsTheOne (Says c) v (Some (VarVar v l))
-    says_equal = (refl, (m, λ e. d (sym e)), only_equal)
-
   module _ (own : IsLeast c v v) where
     not_equal : (u k : ℕ) → u ≡ v → ¬ Says c (VarVar u k)
     not_equal u k e (n, f) = (let same : k ≡ v = one_least c v k v (subst (λ (z : ℕ). IsLeast c z k) e n) own in f (e ∙ sym same))
@@ -66,23 +49,6 @@ module _ (c : Contents) (v : ℕ) where
 
       pub says_term : IsTheOne (Says c) v (Some (VarTerm v s ys))
       says_term = (refl, (own, keys, has, are), only_term)
-
-    module _ (free : IsFree c (name c v)) where
-      not_term : (u : ℕ) (q : Symbol) (zs : List ℕ) → u ≡ v → ¬ Says c (VarTerm u q zs)
-      not_term u q zs e (n, more, h, also) = free_no_term c (name c v) q more free (subst (λ (z : ℕ). HasTermIn c (name c z) q more) e h)
-
-      only_finite : (other : Flat) → variable_of other ≡ v → Says c other → other ≡ Finite v
-      only_finite (VarVar u k) e says = absurd (not_equal u k e says)
-      only_finite (VarTerm u q zs) e says = absurd (not_term u q zs e says)
-      only_finite (Finite u) e says = ap Finite e
-
-      pub says_finite : IsMarked c (name c v) → IsTheOne (Says c) v (Some (Finite v))
-      says_finite marked = (refl, (own, free, marked), only_finite)
-
-      pub says_nothing : ¬ IsMarked c (name c v) → IsTheOne (Says c) v None
-      says_nothing bare (VarVar u k) e says = not_equal u k e says
-      says_nothing bare (VarTerm u q zs) e says = not_term u q zs e says
-      says_nothing bare (Finite u) e (n, f, k) = bare (subst (λ (z : ℕ). IsMarked c (name c z)) e k)
 
 -- those of all variables are what is read off
 pub all_read : (c : Contents) → IsShaped c → (n : ℕ) → n ≡ length c.bindings → (form : List Flat) → AreThose (Says c) n form → IsReadOff c form

@@ -10,4 +10,6 @@ pub use reading::read_off;
 pub use store::Store;
 
 #[cfg(test)]
+mod reading_tests;
+#[cfg(test)]
 mod tests;

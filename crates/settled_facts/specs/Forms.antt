@@ -11,12 +11,8 @@ use Rattle.flat_facts.specs.Spread.{ComesRound}
 use Rattle.term_graph.specs.declared.bound.Bound.{Bound}
 use Rattle.term_graph.specs.declared.bound.Bound.TheVariants.{Free, Variable, Term}
 use Rattle.term_graph.specs.Contents.{Contents, binding_of, term_at}
+pub use Rattle.term_graph.specs.Contents.{IsLeast}
 use Rattle.settled_facts.specs.Settled.{name, IsFree, IsMarked, IsShaped, HasTermIn, Follows, IsSettled}
-
--- l is the least variable with the name of v
-pub record IsLeast (c : Contents) (v l : ℕ) : Type 0 where
-  pub same : name c l ≡ name c v
-  pub least : (u : ℕ) → name c u ≡ name c v → l ≤ u
 
 -- ys are the least variables with the names of xs, place by place
 pub record AreLeast (c : Contents) (xs ys : List ℕ) : Type 0 where
